@@ -1,0 +1,835 @@
+-- The table of examples: rows of arguments with what the calls must give, all proved as one statement by computing the calls' definitions.
+-- The first part has the scope paper's examples 1 to 9; the second has rows of our own where those leave a choice open.
+use mathlib.Core.Path.{_≡_, refl, sym}
+use mathlib.Core.Bool.{Bool, true, false}
+use mathlib.Core.List.{List, [], _∷_, map}
+use Prim.Native.Nat.{ℕ, suc}
+use native.Mathlib.Omega.{arith}
+use lib.ListN.{length, getD, take, drop, replicate}
+use lib.IntN.{ℤ, pos, negℤ}
+use Rattle.whole.specs.Order.{lesser, greater}
+use Rattle.whole.specs.IndexedSum.{sumTo}
+use Rattle.whole.specs.IndexedTotal.{totalTo}
+use Rattle.terms.specs.declared.Listing.{Listing}
+use Rattle.terms.specs.declared.Placing.{Placing}
+use Rattle.terms.specs.Tests.{count, every, keep, allTo, anyTo, rising}
+use Rattle.terms.specs.Points.{coord}
+use Rattle.terms.specs.Before.{before}
+use Rattle.terms.specs.Tree.{treeRun, eachOnce, isTree, isShelf}
+use Rattle.terms.specs.Box.{Box, leastFrom, greatestFrom, rootBox, boxes, shelfBoxes}
+use Rattle.terms.specs.Region.{Region, region, reach, aboveAt, inside, isSettled, isOpen}
+use Rattle.terms.specs.Visits.{openSlots, visits}
+use Rattle.terms.specs.Bound.{digitsWithin, digits, S, isSquare}
+use Rattle.terms.specs.Refusals.{firstOf}
+use Rattle.terms.specs.Calls.{Built, buildAnswer, checkAnswer, listCode, listAnswer, listAfter, placeCode, placeAnswer}
+
+-- A negative number as one writes it.
+abbrev minus : ℕ → ℤ
+minus n = negℤ (pos n)
+
+-- The arguments that tell of a shelf.
+pub record Shelf : Type 0 where
+  pub k : ℕ
+  pub n : ℕ
+  pub points : List ℤ
+  pub order : List ℕ
+
+-- The arguments that tell of a region.
+pub record Faces : Type 0 where
+  pub h : ℕ
+  pub normals : List ℤ
+  pub offsets : List ℤ
+
+-- The region of a row's arguments.
+abbrev pub cut : Shelf → Faces → Region
+cut s f = region (s .k) (f .h) (f .normals) (f .offsets)
+
+-- The first n slots of a row's order.
+abbrev pub slots : Shelf → List ℕ
+slots s = take (s .n) (s .order)
+
+-- The shelf with another order.
+abbrev pub ordered : Shelf → List ℕ → Shelf
+ordered s order = record { k = s .k; n = s .n; points = s .points; order = order }
+
+-- The least and the greatest coordinate of a box, dimension by dimension.
+abbrev pub spans : ℕ → Box → List (List ℤ)
+spans k b = map (λ d. b .low d ∷ b .high d ∷ []) (rising 0 k)
+
+-- What a row gives, and what it must give.
+pub data Row : Type 0 where
+  builds : Shelf → (answer : ℕ) (after : List ℕ) → Row
+  checks : Shelf → (answer : ℕ) → Row
+  lists : Shelf → Faces → (list : List ℕ) (answer : Listing) (after : List ℕ) → Row
+  tests : (k : ℕ) (point : List ℤ) → Faces → Placing → Row
+  opens : Shelf → Faces → List Bool → Row
+  boxed : Shelf → (slot : ℕ) (sides : List (List ℤ)) → Row
+  reaches : Shelf → Faces → (face number : ℕ) → ℤ → Row
+  sums : (n k sum : ℕ) → Row
+  attains : Shelf → Faces → Row
+  squares : (k : ℕ) → Faces → List Bool → Row
+
+-- What it is for a row to hold: the call's definition gives what the row says.
+abbrev pub Holds : Row → Type 0
+Holds (builds s answer after) = Built (s .k) (s .n) (s .points) (s .order) answer after
+Holds (checks s answer) = checkAnswer (s .k) (s .n) (s .points) (s .order) ≡ answer
+Holds (lists s f list answer after) =
+    (listAnswer (s .k) (s .n) (f .h) (s .points) (s .order) (f .normals) (f .offsets) list ≡ answer)
+    × (listAfter (s .k) (s .n) (f .h) (s .points) (s .order) (f .normals) (f .offsets) list ≡ after)
+Holds (tests k point f answer) = placeAnswer k (f .h) point (f .normals) (f .offsets) ≡ answer
+Holds (opens s f open-slots) = openSlots (cut s f) (coord (s .k) (s .points)) (slots s) ≡ open-slots
+Holds (boxed s slot sides) = spans (s .k) (getD (shelfBoxes (s .k) (coord (s .k) (s .points)) (slots s)) slot (rootBox (coord 0 []) [])) ≡ sides
+Holds (reaches s f face number sum) = reach (cut s f) face (coord (s .k) (s .points) number) ≡ sum
+Holds (sums n k sum) = S n k ≡ sum
+Holds (attains s f) = visits (cut s f) (coord (s .k) (s .points)) (slots s) ≡ S (s .n) (s .k)
+Holds (squares k f answers) = map (isSquare (region k (f .h) (f .normals) (f .offsets))) (rising 0 (f .h)) ≡ answers
+
+-- Every row of a table holds.
+infixr 20 _by_also_
+pub data All : List Row → Type 0 where
+  nothing-left : All []
+  _by_also_ : (r : Row) {rs : List Row} → Holds r → All rs → All (r ∷ rs)
+
+-- A build that is done, from what computes of it.
+built : {k n : ℕ} {points : List ℤ} {order after : List ℕ} → buildAnswer k n points order ≡ 0 → length after ≡ length order
+    → isShelf k n points after ≡ true → drop n after ≡ drop n order → Built k n points order 0 after
+built e l t d = record { answered = sym e; size = l; arranged = λ z. t; later = λ z. d; refused = λ z. absurd (z refl) }
+
+-- A build that is refused, from what computes of it.
+unbuilt : {k n : ℕ} {points : List ℤ} {order : List ℕ} {c : ℕ} → buildAnswer k n points order ≡ suc c → Built k n points order (suc c) order
+unbuilt e = record { answered = sym e; size = refl; arranged = λ z. absurd (omega arith); later = λ z. refl; refused = λ z. refl }
+
+-- The answer of a list call that is done.
+abbrev counts : ℕ → ℕ → ℕ → Listing
+counts inside outside visits = record { code = 0; inside = inside; outside = outside; visits = visits }
+
+-- The answer of a list call that is refused.
+abbrev refusal : ℕ → Listing
+refusal c = record { code = c; inside = 0; outside = 0; visits = 0 }
+
+-- The answer of a test of one point.
+abbrev answers : ℕ → ℕ → Placing
+answers code inside = record { code = code; inside = inside }
+
+-- ---- the scope paper's examples
+
+-- Shelf A.
+abbrev shelfA : Shelf
+shelfA = record { k = 2; n = 6; points = pos 1 ∷ pos 5 ∷ pos 4 ∷ pos 2 ∷ pos 4 ∷ pos 8 ∷ pos 7 ∷ pos 1 ∷ pos 6 ∷ pos 6 ∷ pos 2 ∷ pos 2 ∷ []; order = 1 ∷ 5 ∷ 0 ∷ 2 ∷ 3 ∷ 4 ∷ [] }
+
+-- Its points with an order that is not arranged.
+abbrev anyA : Shelf
+anyA = ordered shelfA (0 ∷ 0 ∷ 0 ∷ 0 ∷ 0 ∷ 0 ∷ [])
+
+-- The two faces of the program's example.
+abbrev twoFaces : Faces
+twoFaces = record { h = 2; normals = pos 1 ∷ pos 1 ∷ minus 1 ∷ pos 0 ∷ []; offsets = pos 7 ∷ minus 6 ∷ [] }
+
+-- Face (1, 0), m 5.
+abbrev rightOfFive : Faces
+rightOfFive = record { h = 1; normals = pos 1 ∷ pos 0 ∷ []; offsets = pos 5 ∷ [] }
+
+-- Face (1, 0), m 1.
+abbrev rightOfOne : Faces
+rightOfOne = record { h = 1; normals = pos 1 ∷ pos 0 ∷ []; offsets = pos 1 ∷ [] }
+
+-- Face (1, 0), m 8.
+abbrev rightOfEight : Faces
+rightOfEight = record { h = 1; normals = pos 1 ∷ pos 0 ∷ []; offsets = pos 8 ∷ [] }
+
+-- Face (1, 1), m 6.
+abbrev diagonal : Faces
+diagonal = record { h = 1; normals = pos 1 ∷ pos 1 ∷ []; offsets = pos 6 ∷ [] }
+
+-- No faces.
+abbrev noFaces : Faces
+noFaces = record { h = 0; normals = []; offsets = [] }
+
+-- Example 1: A's order is as printed.
+abbrev pub example-1-build : Row
+example-1-build = builds anyA 0 (1 ∷ 5 ∷ 0 ∷ 2 ∷ 3 ∷ 4 ∷ [])
+
+-- Example 1: and it passes.
+abbrev pub example-1-check : Row
+example-1-check = checks shelfA 0
+
+-- Example 2: A with the two faces.
+abbrev pub example-2-list : Row
+example-2-list = lists shelfA twoFaces (0 ∷ 0 ∷ 0 ∷ 0 ∷ 0 ∷ 0 ∷ []) (counts 2 4 5) (2 ∷ 4 ∷ 3 ∷ 0 ∷ 5 ∷ 1 ∷ [])
+
+-- Example 2: only slot 0 is settled.
+abbrev pub example-2-open : Row
+example-2-open = opens shelfA twoFaces (false ∷ true ∷ true ∷ true ∷ true ∷ true ∷ [])
+
+-- Example 2: slot 0's box is x 1..4, y 1..2.
+abbrev pub example-2-box : Row
+example-2-box = boxed shelfA 0 ((pos 1 ∷ pos 4 ∷ []) ∷ (pos 1 ∷ pos 2 ∷ []) ∷ [])
+
+-- Example 3: face (1, 0), m 5.
+abbrev pub example-3-list : Row
+example-3-list = lists shelfA rightOfFive (0 ∷ 0 ∷ 0 ∷ 0 ∷ 0 ∷ 0 ∷ []) (counts 2 4 3) (3 ∷ 4 ∷ 2 ∷ 0 ∷ 5 ∷ 1 ∷ [])
+
+-- Example 4: m 1, all inside, no visits.
+abbrev pub example-4-all : Row
+example-4-all = lists shelfA rightOfOne (0 ∷ 0 ∷ 0 ∷ 0 ∷ 0 ∷ 0 ∷ []) (counts 6 0 0) (1 ∷ 5 ∷ 0 ∷ 2 ∷ 3 ∷ 4 ∷ [])
+
+-- Example 4: m 8, all outside, no visits.
+abbrev pub example-4-none : Row
+example-4-none = lists shelfA rightOfEight (0 ∷ 0 ∷ 0 ∷ 0 ∷ 0 ∷ 0 ∷ []) (counts 0 6 0) (4 ∷ 3 ∷ 2 ∷ 0 ∷ 5 ∷ 1 ∷ [])
+
+-- Example 5: points 0 and 1 lie on the face and are inside.
+abbrev pub example-5-list : Row
+example-5-list = lists shelfA diagonal (0 ∷ 0 ∷ 0 ∷ 0 ∷ 0 ∷ 0 ∷ []) (counts 5 1 6) (1 ∷ 0 ∷ 2 ∷ 3 ∷ 4 ∷ 5 ∷ [])
+
+-- Example 5: point 0 has reach 6.
+abbrev pub example-5-reach-0 : Row
+example-5-reach-0 = reaches shelfA diagonal 0 0 (pos 6)
+
+-- Example 5: point 1 has reach 6.
+abbrev pub example-5-reach-1 : Row
+example-5-reach-1 = reaches shelfA diagonal 0 1 (pos 6)
+
+-- Example 6: no faces.
+abbrev pub example-6-list : Row
+example-6-list = lists shelfA noFaces (0 ∷ 0 ∷ 0 ∷ 0 ∷ 0 ∷ 0 ∷ []) (counts 6 0 0) (1 ∷ 5 ∷ 0 ∷ 2 ∷ 3 ∷ 4 ∷ [])
+
+-- Points 0 and 10 on a line.
+abbrev pair : Shelf
+pair = record { k = 1; n = 2; points = pos 0 ∷ pos 10 ∷ []; order = 0 ∷ 1 ∷ [] }
+
+-- The same, not arranged.
+abbrev anyPair : Shelf
+anyPair = ordered pair (7 ∷ 7 ∷ [])
+
+-- Face 1, m 5, on a line.
+abbrev fromFive : Faces
+fromFive = record { h = 1; normals = pos 1 ∷ []; offsets = pos 5 ∷ [] }
+
+-- Example 7: the order is 0 1.
+abbrev pub example-7-build : Row
+example-7-build = builds anyPair 0 (0 ∷ 1 ∷ [])
+
+-- Example 7: two visits.
+abbrev pub example-7-list : Row
+example-7-list = lists pair fromFive (0 ∷ 0 ∷ []) (counts 1 1 2) (1 ∷ 0 ∷ [])
+
+-- Example 7: the visits are S(2, 1).
+abbrev pub example-7-bound : Row
+example-7-bound = attains pair fromFive
+
+-- Points 3, 3, 3, not arranged.
+abbrev anyTies : Shelf
+anyTies = record { k = 1; n = 3; points = pos 3 ∷ pos 3 ∷ pos 3 ∷ []; order = 2 ∷ 2 ∷ 2 ∷ [] }
+
+-- Points 3, 3, 3 in the order of their numbers.
+abbrev ties : Shelf
+ties = ordered anyTies (0 ∷ 1 ∷ 2 ∷ [])
+
+-- The same in another order.
+abbrev tiesSwapped : Shelf
+tiesSwapped = ordered anyTies (1 ∷ 0 ∷ 2 ∷ [])
+
+-- Example 8: the order is 0 1 2.
+abbrev pub example-8-build : Row
+example-8-build = builds anyTies 0 (0 ∷ 1 ∷ 2 ∷ [])
+
+-- Example 8: it passes.
+abbrev pub example-8-check : Row
+example-8-check = checks ties 0
+
+-- Example 8: order 1 0 2 gives 9.
+abbrev pub example-8-swapped : Row
+example-8-swapped = checks tiesSwapped 9
+
+-- The one point (4, 2).
+abbrev one : Shelf
+one = record { k = 2; n = 1; points = pos 4 ∷ pos 2 ∷ []; order = 0 ∷ [] }
+
+-- Example 9: outside, list 0, no visits.
+abbrev pub example-9-list : Row
+example-9-list = lists one twoFaces (5 ∷ []) (counts 0 1 0) (0 ∷ [])
+
+-- Example 9: the one-point test says outside.
+abbrev pub example-9-test : Row
+example-9-test = tests 2 (pos 4 ∷ pos 2 ∷ []) twoFaces (answers 0 0)
+
+-- S(6, 2).
+abbrev pub sum-6-2 : Row
+sum-6-2 = sums 6 2 5
+
+-- S(65,535, 1).
+abbrev pub sum-65535-1 : Row
+sum-65535-1 = sums 65535 1 16
+
+-- S(65,535, 2).
+abbrev pub sum-65535-2 : Row
+sum-65535-2 = sums 65535 2 765
+
+-- S(65,535, 3).
+abbrev pub sum-65535-3 : Row
+sum-65535-3 = sums 65535 3 3411
+
+-- S(65,535, 4).
+abbrev pub sum-65535-4 : Row
+sum-65535-4 = sums 65535 4 8775
+
+-- ---- rows of our own
+
+-- A point on the face is inside.
+abbrev pub test-on-the-face : Row
+test-on-the-face = tests 2 (pos 1 ∷ pos 5 ∷ []) diagonal (answers 0 1)
+
+-- A point one below it is outside.
+abbrev pub test-below-the-face : Row
+test-below-the-face = tests 2 (pos 0 ∷ pos 5 ∷ []) diagonal (answers 0 0)
+
+-- Shelf A's points in a longer order.
+abbrev anyALonger : Shelf
+anyALonger = ordered shelfA (9 ∷ 9 ∷ 9 ∷ 9 ∷ 9 ∷ 9 ∷ 70 ∷ 71 ∷ [])
+
+-- Places from n on stay.
+abbrev pub build-keeps-later-places : Row
+build-keeps-later-places = builds anyALonger 0 (1 ∷ 5 ∷ 0 ∷ 2 ∷ 3 ∷ 4 ∷ 70 ∷ 71 ∷ [])
+
+-- Shelf A in a longer order.
+abbrev shelfALonger : Shelf
+shelfALonger = ordered shelfA (1 ∷ 5 ∷ 0 ∷ 2 ∷ 3 ∷ 4 ∷ 1 ∷ 0 ∷ [])
+
+-- The list buffer's places from n on stay.
+abbrev pub list-keeps-later-places : Row
+list-keeps-later-places = lists shelfALonger twoFaces (8 ∷ 8 ∷ 8 ∷ 8 ∷ 8 ∷ 8 ∷ 80 ∷ 81 ∷ []) (counts 2 4 5) (2 ∷ 4 ∷ 3 ∷ 0 ∷ 5 ∷ 1 ∷ 80 ∷ 81 ∷ [])
+
+-- Points -5, 3, -4.
+abbrev anyNegatives : Shelf
+anyNegatives = record { k = 1; n = 3; points = minus 5 ∷ pos 3 ∷ minus 4 ∷ []; order = 0 ∷ 0 ∷ 0 ∷ [] }
+
+-- Negative coordinates come first.
+abbrev pub build-by-value-not-size : Row
+build-by-value-not-size = builds anyNegatives 0 (0 ∷ 2 ∷ 1 ∷ [])
+
+-- Nine points of -1, 0, 1 with ties on every dimension: four levels, k 3.
+abbrev anyTiesInThree : Shelf
+anyTiesInThree = record { k = 3; n = 9; points = pos 0 ∷ pos 1 ∷ pos 0 ∷ pos 0 ∷ pos 1 ∷ pos 1 ∷ minus 1 ∷ minus 1 ∷ pos 1 ∷ pos 0 ∷ pos 1 ∷ pos 1 ∷ minus 1 ∷ minus 1 ∷ pos 0 ∷ pos 0 ∷ minus 1 ∷ minus 1 ∷ pos 1 ∷ pos 1 ∷ pos 1 ∷ minus 1 ∷ pos 1 ∷ pos 0 ∷ pos 0 ∷ pos 1 ∷ pos 1 ∷ []; order = 0 ∷ 0 ∷ 0 ∷ 0 ∷ 0 ∷ 0 ∷ 0 ∷ 0 ∷ 0 ∷ [] }
+
+-- The same, arranged.
+abbrev tiesInThree : Shelf
+tiesInThree = ordered anyTiesInThree (4 ∷ 2 ∷ 0 ∷ 7 ∷ 1 ∷ 5 ∷ 3 ∷ 6 ∷ 8 ∷ [])
+
+-- Ties on every dimension go by number.
+abbrev pub build-ties-in-three : Row
+build-ties-in-three = builds anyTiesInThree 0 (4 ∷ 2 ∷ 0 ∷ 7 ∷ 1 ∷ 5 ∷ 3 ∷ 6 ∷ 8 ∷ [])
+
+-- Eight equal points: four levels, k 3.
+abbrev anyEqual : Shelf
+anyEqual = record { k = 3; n = 8; points = pos 4 ∷ minus 4 ∷ pos 4 ∷ pos 4 ∷ minus 4 ∷ pos 4 ∷ pos 4 ∷ minus 4 ∷ pos 4 ∷ pos 4 ∷ minus 4 ∷ pos 4 ∷ pos 4 ∷ minus 4 ∷ pos 4 ∷ pos 4 ∷ minus 4 ∷ pos 4 ∷ pos 4 ∷ minus 4 ∷ pos 4 ∷ pos 4 ∷ minus 4 ∷ pos 4 ∷ []; order = 3 ∷ 3 ∷ 3 ∷ 3 ∷ 3 ∷ 3 ∷ 3 ∷ 3 ∷ [] }
+
+-- Equal points stand in the order of their numbers.
+abbrev pub build-equal-points : Row
+build-equal-points = builds anyEqual 0 (0 ∷ 1 ∷ 2 ∷ 3 ∷ 4 ∷ 5 ∷ 6 ∷ 7 ∷ [])
+
+-- Two slanted faces with negative components, and a zero face with m 0.
+abbrev slantedInThree : Faces
+slantedInThree = record { h = 3; normals = pos 5 ∷ pos 0 ∷ minus 4 ∷ pos 2 ∷ minus 2 ∷ minus 3 ∷ pos 0 ∷ pos 0 ∷ pos 0 ∷ []; offsets = minus 4 ∷ minus 5 ∷ pos 0 ∷ [] }
+
+-- A slanted region in three dimensions.
+abbrev pub list-ties-in-three : Row
+list-ties-in-three = lists tiesInThree slantedInThree (0 ∷ 0 ∷ 0 ∷ 0 ∷ 0 ∷ 0 ∷ 0 ∷ 0 ∷ 0 ∷ []) (counts 6 3 5) (0 ∷ 1 ∷ 5 ∷ 3 ∷ 6 ∷ 8 ∷ 7 ∷ 2 ∷ 4 ∷ [])
+
+-- Its open slots.
+abbrev pub open-ties-in-three : Row
+open-ties-in-three = opens tiesInThree slantedInThree (true ∷ true ∷ true ∷ true ∷ true ∷ false ∷ false ∷ false ∷ false ∷ [])
+
+-- Eleven points spread around 0: four levels, k 3.
+abbrev anyThree : Shelf
+anyThree = record { k = 3; n = 11; points = minus 2 ∷ minus 15 ∷ minus 19 ∷ pos 17 ∷ minus 1 ∷ pos 7 ∷ pos 4 ∷ pos 13 ∷ pos 2 ∷ minus 12 ∷ minus 8 ∷ minus 3 ∷ pos 8 ∷ minus 20 ∷ minus 6 ∷ pos 19 ∷ pos 9 ∷ minus 19 ∷ minus 14 ∷ minus 15 ∷ pos 11 ∷ pos 6 ∷ minus 19 ∷ pos 12 ∷ pos 20 ∷ pos 7 ∷ pos 2 ∷ minus 17 ∷ minus 7 ∷ minus 18 ∷ pos 17 ∷ pos 3 ∷ minus 9 ∷ []; order = 0 ∷ 0 ∷ 0 ∷ 0 ∷ 0 ∷ 0 ∷ 0 ∷ 0 ∷ 0 ∷ 0 ∷ 0 ∷ [] }
+
+-- The same, arranged.
+abbrev three : Shelf
+three = ordered anyThree (0 ∷ 6 ∷ 3 ∷ 9 ∷ 2 ∷ 7 ∷ 4 ∷ 1 ∷ 10 ∷ 5 ∷ 8 ∷ [])
+
+-- A spread shelf in three dimensions.
+abbrev pub build-three : Row
+build-three = builds anyThree 0 (0 ∷ 6 ∷ 3 ∷ 9 ∷ 2 ∷ 7 ∷ 4 ∷ 1 ∷ 10 ∷ 5 ∷ 8 ∷ [])
+
+-- A slanted face and a square one, both with negative components.
+abbrev wedgeInThree : Faces
+wedgeInThree = record { h = 2; normals = minus 3 ∷ pos 4 ∷ minus 4 ∷ minus 1 ∷ pos 0 ∷ pos 0 ∷ []; offsets = minus 142 ∷ minus 4 ∷ [] }
+
+-- A wedge in three dimensions.
+abbrev pub list-three : Row
+list-three = lists three wedgeInThree (0 ∷ 0 ∷ 0 ∷ 0 ∷ 0 ∷ 0 ∷ 0 ∷ 0 ∷ 0 ∷ 0 ∷ 0 ∷ []) (counts 5 6 6) (0 ∷ 6 ∷ 3 ∷ 9 ∷ 2 ∷ 8 ∷ 5 ∷ 10 ∷ 1 ∷ 4 ∷ 7 ∷ [])
+
+-- Its open slots.
+abbrev pub open-three : Row
+open-three = opens three wedgeInThree (true ∷ true ∷ true ∷ true ∷ true ∷ true ∷ false ∷ false ∷ false ∷ false ∷ false ∷ [])
+
+-- Fifteen points with ties: four levels, k 4.
+abbrev anyFour : Shelf
+anyFour = record { k = 4; n = 15; points = pos 2 ∷ minus 3 ∷ pos 2 ∷ minus 3 ∷ pos 2 ∷ pos 9 ∷ pos 9 ∷ minus 3 ∷ pos 2 ∷ minus 3 ∷ pos 2 ∷ minus 3 ∷ pos 2 ∷ minus 7 ∷ pos 9 ∷ pos 0 ∷ minus 3 ∷ pos 2 ∷ pos 0 ∷ pos 2 ∷ pos 9 ∷ pos 0 ∷ pos 2 ∷ pos 2 ∷ minus 3 ∷ minus 3 ∷ pos 9 ∷ minus 3 ∷ pos 2 ∷ minus 3 ∷ pos 2 ∷ pos 9 ∷ pos 2 ∷ minus 3 ∷ pos 2 ∷ minus 7 ∷ minus 7 ∷ minus 7 ∷ pos 0 ∷ minus 7 ∷ pos 2 ∷ minus 3 ∷ pos 2 ∷ minus 3 ∷ pos 9 ∷ pos 2 ∷ minus 3 ∷ minus 7 ∷ minus 3 ∷ minus 3 ∷ pos 2 ∷ minus 3 ∷ pos 9 ∷ pos 0 ∷ pos 2 ∷ minus 3 ∷ minus 3 ∷ minus 3 ∷ minus 7 ∷ pos 2 ∷ []; order = 1 ∷ 1 ∷ 1 ∷ 1 ∷ 1 ∷ 1 ∷ 1 ∷ 1 ∷ 1 ∷ 1 ∷ 1 ∷ 1 ∷ 1 ∷ 1 ∷ 1 ∷ [] }
+
+-- The same, arranged.
+abbrev four : Shelf
+four = ordered anyFour (9 ∷ 0 ∷ 6 ∷ 12 ∷ 14 ∷ 4 ∷ 1 ∷ 2 ∷ 7 ∷ 8 ∷ 3 ∷ 10 ∷ 11 ∷ 5 ∷ 13 ∷ [])
+
+-- A shelf in four dimensions.
+abbrev pub build-four : Row
+build-four = builds anyFour 0 (9 ∷ 0 ∷ 6 ∷ 12 ∷ 14 ∷ 4 ∷ 1 ∷ 2 ∷ 7 ∷ 8 ∷ 3 ∷ 10 ∷ 11 ∷ 5 ∷ 13 ∷ [])
+
+-- Two slanted faces in four dimensions.
+abbrev slantedInFour : Faces
+slantedInFour = record { h = 2; normals = pos 2 ∷ pos 0 ∷ minus 4 ∷ pos 5 ∷ pos 4 ∷ pos 1 ∷ pos 1 ∷ minus 1 ∷ []; offsets = minus 57 ∷ pos 29 ∷ [] }
+
+-- A slanted region in four dimensions.
+abbrev pub list-four : Row
+list-four = lists four slantedInFour (0 ∷ 0 ∷ 0 ∷ 0 ∷ 0 ∷ 0 ∷ 0 ∷ 0 ∷ 0 ∷ 0 ∷ 0 ∷ 0 ∷ 0 ∷ 0 ∷ 0 ∷ []) (counts 4 11 11) (1 ∷ 11 ∷ 5 ∷ 13 ∷ 10 ∷ 3 ∷ 8 ∷ 7 ∷ 2 ∷ 4 ∷ 14 ∷ 12 ∷ 6 ∷ 0 ∷ 9 ∷ [])
+
+-- Its open slots.
+abbrev pub open-four : Row
+open-four = opens four slantedInFour (false ∷ false ∷ false ∷ true ∷ false ∷ true ∷ true ∷ true ∷ true ∷ true ∷ true ∷ true ∷ true ∷ true ∷ true ∷ [])
+
+-- The same with two slots swapped.
+abbrev fourSwapped : Shelf
+fourSwapped = ordered anyFour (0 ∷ 9 ∷ 6 ∷ 12 ∷ 14 ∷ 4 ∷ 1 ∷ 2 ∷ 7 ∷ 8 ∷ 3 ∷ 10 ∷ 11 ∷ 5 ∷ 13 ∷ [])
+
+-- Two slots swapped give 9.
+abbrev pub check-swapped : Row
+check-swapped = checks fourSwapped 9
+
+-- The two extreme points in four dimensions.
+abbrev anyExtremes : Shelf
+anyExtremes = record { k = 4; n = 2; points = minus 32768 ∷ minus 32768 ∷ minus 32768 ∷ minus 32768 ∷ pos 32767 ∷ pos 32767 ∷ pos 32767 ∷ pos 32767 ∷ []; order = 0 ∷ 0 ∷ [] }
+
+-- The same, arranged.
+abbrev extremes : Shelf
+extremes = ordered anyExtremes (0 ∷ 1 ∷ [])
+
+-- The extremes of a coordinate pass.
+abbrev pub build-extremes : Row
+build-extremes = builds anyExtremes 0 (0 ∷ 1 ∷ [])
+
+-- The extremes of component and offset; the last face runs through the least point.
+abbrev extremeFaces : Faces
+extremeFaces = record { h = 3; normals = pos 32767 ∷ pos 32767 ∷ pos 32767 ∷ pos 32767 ∷ minus 32767 ∷ minus 32767 ∷ minus 32767 ∷ minus 32767 ∷ minus 32767 ∷ minus 32767 ∷ minus 32767 ∷ minus 32767 ∷ []; offsets = minus 8589934592 ∷ minus 8589934592 ∷ pos 4294836224 ∷ [] }
+
+-- The greatest sums of products, one of them on a face.
+abbrev pub list-extremes : Row
+list-extremes = lists extremes extremeFaces (0 ∷ 0 ∷ []) (counts 1 1 2) (0 ∷ 1 ∷ [])
+
+-- An offset that no point reaches.
+abbrev beyondReach : Faces
+beyondReach = record { h = 1; normals = pos 32767 ∷ pos 32767 ∷ pos 32767 ∷ pos 32767 ∷ []; offsets = pos 8589934592 ∷ [] }
+
+-- All outside, no visits.
+abbrev pub list-beyond-reach : Row
+list-beyond-reach = lists extremes beyondReach (0 ∷ 0 ∷ []) (counts 0 2 0) (1 ∷ 0 ∷ [])
+
+-- A zero normal with m 0.
+abbrev zeroFace : Faces
+zeroFace = record { h = 1; normals = pos 0 ∷ pos 0 ∷ []; offsets = pos 0 ∷ [] }
+
+-- A zero normal with m 1.
+abbrev zeroFaceAboveNone : Faces
+zeroFaceAboveNone = record { h = 1; normals = pos 0 ∷ pos 0 ∷ []; offsets = pos 1 ∷ [] }
+
+-- All inside, no visits.
+abbrev pub list-zero-face : Row
+list-zero-face = lists shelfA zeroFace (0 ∷ 0 ∷ 0 ∷ 0 ∷ 0 ∷ 0 ∷ []) (counts 6 0 0) (1 ∷ 5 ∷ 0 ∷ 2 ∷ 3 ∷ 4 ∷ [])
+
+-- None inside, no visits.
+abbrev pub list-zero-face-above-none : Row
+list-zero-face-above-none = lists shelfA zeroFaceAboveNone (0 ∷ 0 ∷ 0 ∷ 0 ∷ 0 ∷ 0 ∷ []) (counts 0 6 0) (4 ∷ 3 ∷ 2 ∷ 0 ∷ 5 ∷ 1 ∷ [])
+
+-- The empty shelf.
+abbrev empty : Shelf
+empty = record { k = 3; n = 0; points = []; order = [] }
+
+-- Nothing, no visits.
+abbrev pub list-empty : Row
+list-empty = lists empty slantedInThree ([]) (counts 0 0 0) ([])
+
+-- ---- refusals, each beside the next fault so that the order of the tests shows
+
+-- k 5, and n 65,536.
+abbrev fiveDimensions : Shelf
+fiveDimensions = record { k = 5; n = 65536; points = []; order = [] }
+
+-- k 0.
+abbrev noDimension : Shelf
+noDimension = record { k = 0; n = 2; points = []; order = 0 ∷ 1 ∷ [] }
+
+-- 1 before 2.
+abbrev pub build-refuses-k-first : Row
+build-refuses-k-first = builds fiveDimensions 1 []
+
+-- k 0 is 1.
+abbrev pub check-refuses-no-dimension : Row
+check-refuses-no-dimension = checks noDimension 1
+
+-- n 65,536, and points of another length.
+abbrev tooMany : Shelf
+tooMany = record { k = 2; n = 65536; points = pos 1 ∷ []; order = [] }
+
+-- 2 before 3.
+abbrev pub build-refuses-n-second : Row
+build-refuses-n-second = builds tooMany 2 []
+
+-- Eleven coordinates for six points, and a short order.
+abbrev wrongPoints : Shelf
+wrongPoints = record { k = 2; n = 6; points = pos 1 ∷ pos 5 ∷ pos 4 ∷ pos 2 ∷ pos 4 ∷ pos 8 ∷ pos 7 ∷ pos 1 ∷ pos 6 ∷ pos 6 ∷ pos 2 ∷ []; order = 5 ∷ [] }
+
+-- 3 before 4.
+abbrev pub build-refuses-points-third : Row
+build-refuses-points-third = builds wrongPoints 3 (5 ∷ [])
+
+-- A short order, and a coordinate out of range.
+abbrev shortOrder : Shelf
+shortOrder = record { k = 1; n = 2; points = pos 0 ∷ pos 40000 ∷ []; order = 5 ∷ [] }
+
+-- 4 before 5.
+abbrev pub build-refuses-room-fourth : Row
+build-refuses-room-fourth = builds shortOrder 4 (5 ∷ [])
+
+-- Coordinate 32,768, and an order that is no tree.
+abbrev coordinateTooHigh : Shelf
+coordinateTooHigh = record { k = 1; n = 2; points = pos 0 ∷ pos 32768 ∷ []; order = 0 ∷ 0 ∷ [] }
+
+-- 5 before 9.
+abbrev pub check-refuses-coordinate-fifth : Row
+check-refuses-coordinate-fifth = checks coordinateTooHigh 5
+
+-- Coordinate -32,769.
+abbrev coordinateTooLow : Shelf
+coordinateTooLow = record { k = 1; n = 2; points = minus 32769 ∷ pos 0 ∷ []; order = 0 ∷ 1 ∷ [] }
+
+-- 5 for a coordinate too low; the order stays.
+abbrev pub build-refuses-low-coordinate : Row
+build-refuses-low-coordinate = builds coordinateTooLow 5 (0 ∷ 1 ∷ [])
+
+-- h 33, and normals of another length.
+abbrev tooManyFaces : Faces
+tooManyFaces = record { h = 33; normals = []; offsets = [] }
+
+-- 4 for a short list buffer, before 6.
+abbrev pub list-refuses-short-list : Row
+list-refuses-short-list = lists pair tooManyFaces (3 ∷ []) (refusal 4) (3 ∷ [])
+
+-- 5 before 6.
+abbrev pub list-refuses-coordinate : Row
+list-refuses-coordinate = lists coordinateTooHigh tooManyFaces (3 ∷ 3 ∷ []) (refusal 5) (3 ∷ 3 ∷ [])
+
+-- 6 before 7.
+abbrev pub list-refuses-h : Row
+list-refuses-h = lists pair tooManyFaces (3 ∷ 3 ∷ []) (refusal 6) (3 ∷ 3 ∷ [])
+
+-- A component too many, and an offset out of range.
+abbrev wrongNormals : Faces
+wrongNormals = record { h = 1; normals = pos 1 ∷ pos 2 ∷ []; offsets = pos 9000000000 ∷ [] }
+
+-- 7 before 8.
+abbrev pub list-refuses-normals : Row
+list-refuses-normals = lists pair wrongNormals (3 ∷ 3 ∷ []) (refusal 7) (3 ∷ 3 ∷ [])
+
+-- No offset, and a component out of range.
+abbrev wrongOffsets : Faces
+wrongOffsets = record { h = 1; normals = minus 32768 ∷ []; offsets = [] }
+
+-- 7 for offsets of another length, before 8.
+abbrev pub list-refuses-offsets : Row
+list-refuses-offsets = lists pair wrongOffsets (3 ∷ 3 ∷ []) (refusal 7) (3 ∷ 3 ∷ [])
+
+-- Points 0 and 10 in the wrong order.
+abbrev pairSwapped : Shelf
+pairSwapped = ordered pair (1 ∷ 0 ∷ [])
+
+-- Component -32,768.
+abbrev componentTooLow : Faces
+componentTooLow = record { h = 1; normals = minus 32768 ∷ []; offsets = pos 0 ∷ [] }
+
+-- 8 before 9.
+abbrev pub list-refuses-component : Row
+list-refuses-component = lists pairSwapped componentTooLow (3 ∷ 3 ∷ []) (refusal 8) (3 ∷ 3 ∷ [])
+
+-- Component 32,768.
+abbrev componentTooHigh : Faces
+componentTooHigh = record { h = 1; normals = pos 32768 ∷ []; offsets = pos 0 ∷ [] }
+
+-- 8 for component 32,768.
+abbrev pub list-refuses-high-component : Row
+list-refuses-high-component = lists pair componentTooHigh (3 ∷ 3 ∷ []) (refusal 8) (3 ∷ 3 ∷ [])
+
+-- Offset 8,589,934,593.
+abbrev offsetTooHigh : Faces
+offsetTooHigh = record { h = 1; normals = pos 1 ∷ []; offsets = pos 8589934593 ∷ [] }
+
+-- 8 for an offset one too great.
+abbrev pub list-refuses-offset : Row
+list-refuses-offset = lists pair offsetTooHigh (3 ∷ 3 ∷ []) (refusal 8) (3 ∷ 3 ∷ [])
+
+-- Offset -8,589,934,593.
+abbrev offsetTooLow : Faces
+offsetTooLow = record { h = 1; normals = pos 1 ∷ []; offsets = minus 8589934593 ∷ [] }
+
+-- 8 for an offset one too small.
+abbrev pub list-refuses-low-offset : Row
+list-refuses-low-offset = lists pair offsetTooLow (3 ∷ 3 ∷ []) (refusal 8) (3 ∷ 3 ∷ [])
+
+-- 9 last; the buffer stays.
+abbrev pub list-refuses-order : Row
+list-refuses-order = lists pairSwapped fromFive (3 ∷ 4 ∷ []) (refusal 9) (3 ∷ 4 ∷ [])
+
+-- A number twice.
+abbrev numberTwice : Shelf
+numberTwice = ordered pair (0 ∷ 0 ∷ [])
+
+-- A number that is n.
+abbrev numberOfN : Shelf
+numberOfN = ordered pair (0 ∷ 2 ∷ [])
+
+-- A number twice is 9.
+abbrev pub check-refuses-number-twice : Row
+check-refuses-number-twice = checks numberTwice 9
+
+-- A number of n is 9.
+abbrev pub check-refuses-number-of-n : Row
+check-refuses-number-of-n = checks numberOfN 9
+
+-- 1 before 3.
+abbrev pub test-refuses-dimension : Row
+test-refuses-dimension = tests 5 [] twoFaces (answers 1 0)
+
+-- 3 for a point that is not k long, before 5.
+abbrev pub test-refuses-length : Row
+test-refuses-length = tests 2 (pos 40000 ∷ []) twoFaces (answers 3 0)
+
+-- 5 before 6.
+abbrev pub test-refuses-coordinate : Row
+test-refuses-coordinate = tests 1 (pos 40000 ∷ []) tooManyFaces (answers 5 0)
+
+-- 6 before 7.
+abbrev pub test-refuses-h : Row
+test-refuses-h = tests 1 (pos 4 ∷ []) tooManyFaces (answers 6 0)
+
+-- 7 before 8.
+abbrev pub test-refuses-normals : Row
+test-refuses-normals = tests 1 (pos 4 ∷ []) wrongNormals (answers 7 0)
+
+-- 8.
+abbrev pub test-refuses-component : Row
+test-refuses-component = tests 1 (pos 4 ∷ []) componentTooLow (answers 8 0)
+
+-- S(0, 3): the empty shelf.
+abbrev pub sum-0-3 : Row
+sum-0-3 = sums 0 3 0
+
+-- Four faces on the plane: the zero face, one component, one negative component, two components.
+abbrev fourFaces : Faces
+fourFaces = record { h = 4; normals = pos 0 ∷ pos 0 ∷ pos 1 ∷ pos 0 ∷ pos 0 ∷ minus 3 ∷ pos 1 ∷ minus 1 ∷ []; offsets = pos 0 ∷ pos 0 ∷ pos 0 ∷ pos 0 ∷ [] }
+
+-- At most one component is not zero.
+abbrev pub square-faces : Row
+square-faces = squares 2 fourFaces (true ∷ true ∷ true ∷ false ∷ [])
+
+-- n 65,535 passes as a number of points; the points are missing.
+abbrev fullShelf : Shelf
+fullShelf = record { k = 1; n = 65535; points = []; order = [] }
+
+-- 65,535 is not too many.
+abbrev pub build-takes-full-shelf : Row
+build-takes-full-shelf = builds fullShelf 3 []
+
+-- h 32 on a line, all zero faces.
+abbrev mostFaces : Faces
+mostFaces = record { h = 32; normals = replicate 32 (pos 0); offsets = replicate 32 (pos 0) }
+
+-- 32 faces are not too many.
+abbrev pub list-takes-most-faces : Row
+list-takes-most-faces = lists pair mostFaces (9 ∷ 9 ∷ []) (counts 2 0 0) (0 ∷ 1 ∷ [])
+
+-- 1 of a list call, before 2.
+abbrev pub list-refuses-dimension : Row
+list-refuses-dimension = lists fiveDimensions fromFive (3 ∷ []) (refusal 1) (3 ∷ [])
+
+-- 3 of a list call, before 4.
+abbrev pub list-refuses-points : Row
+list-refuses-points = lists wrongPoints fromFive (3 ∷ []) (refusal 3) (3 ∷ [])
+
+-- 4 of a list call for a short order, before 5.
+abbrev pub list-refuses-short-order : Row
+list-refuses-short-order = lists shortOrder fromFive (3 ∷ 3 ∷ []) (refusal 4) (3 ∷ 3 ∷ [])
+
+-- 2 of a list call, before 3.
+abbrev pub list-refuses-n : Row
+list-refuses-n = lists tooMany fromFive (3 ∷ []) (refusal 2) (3 ∷ [])
+
+-- ---- the statement
+
+-- The table.
+abbrev pub table : List Row
+table =
+    example-1-build
+    ∷ example-1-check
+    ∷ example-2-list
+    ∷ example-2-open
+    ∷ example-2-box
+    ∷ example-3-list
+    ∷ example-4-all
+    ∷ example-4-none
+    ∷ example-5-list
+    ∷ example-5-reach-0
+    ∷ example-5-reach-1
+    ∷ example-6-list
+    ∷ example-7-build
+    ∷ example-7-list
+    ∷ example-7-bound
+    ∷ example-8-build
+    ∷ example-8-check
+    ∷ example-8-swapped
+    ∷ example-9-list
+    ∷ example-9-test
+    ∷ sum-6-2
+    ∷ sum-65535-1
+    ∷ sum-65535-2
+    ∷ sum-65535-3
+    ∷ sum-65535-4
+    ∷ test-on-the-face
+    ∷ test-below-the-face
+    ∷ build-keeps-later-places
+    ∷ list-keeps-later-places
+    ∷ build-by-value-not-size
+    ∷ build-ties-in-three
+    ∷ build-equal-points
+    ∷ list-ties-in-three
+    ∷ open-ties-in-three
+    ∷ build-three
+    ∷ list-three
+    ∷ open-three
+    ∷ build-four
+    ∷ list-four
+    ∷ open-four
+    ∷ check-swapped
+    ∷ build-extremes
+    ∷ list-extremes
+    ∷ list-beyond-reach
+    ∷ list-zero-face
+    ∷ list-zero-face-above-none
+    ∷ list-empty
+    ∷ build-refuses-k-first
+    ∷ check-refuses-no-dimension
+    ∷ build-refuses-n-second
+    ∷ build-refuses-points-third
+    ∷ build-refuses-room-fourth
+    ∷ check-refuses-coordinate-fifth
+    ∷ build-refuses-low-coordinate
+    ∷ list-refuses-short-list
+    ∷ list-refuses-coordinate
+    ∷ list-refuses-h
+    ∷ list-refuses-normals
+    ∷ list-refuses-offsets
+    ∷ list-refuses-component
+    ∷ list-refuses-high-component
+    ∷ list-refuses-offset
+    ∷ list-refuses-low-offset
+    ∷ list-refuses-order
+    ∷ check-refuses-number-twice
+    ∷ check-refuses-number-of-n
+    ∷ test-refuses-dimension
+    ∷ test-refuses-length
+    ∷ test-refuses-coordinate
+    ∷ test-refuses-h
+    ∷ test-refuses-normals
+    ∷ test-refuses-component
+    ∷ sum-0-3
+    ∷ square-faces
+    ∷ build-takes-full-shelf
+    ∷ list-takes-most-faces
+    ∷ list-refuses-dimension
+    ∷ list-refuses-n
+    ∷ list-refuses-points
+    ∷ list-refuses-short-order
+    ∷ []
+
+-- Every row holds of the calls as they are defined.
+pub examples-hold : All table
+unfolding lesser greater sumTo totalTo count every keep allTo anyTo rising before treeRun eachOnce isTree leastFrom greatestFrom rootBox boxes aboveAt inside isSettled isOpen openSlots visits digitsWithin digits S isSquare firstOf buildAnswer checkAnswer listCode listAnswer listAfter placeCode placeAnswer
+examples-hold =
+    example-1-build by built refl refl refl refl
+    also example-1-check by refl
+    also example-2-list by (refl, refl)
+    also example-2-open by refl
+    also example-2-box by refl
+    also example-3-list by (refl, refl)
+    also example-4-all by (refl, refl)
+    also example-4-none by (refl, refl)
+    also example-5-list by (refl, refl)
+    also example-5-reach-0 by refl
+    also example-5-reach-1 by refl
+    also example-6-list by (refl, refl)
+    also example-7-build by built refl refl refl refl
+    also example-7-list by (refl, refl)
+    also example-7-bound by refl
+    also example-8-build by built refl refl refl refl
+    also example-8-check by refl
+    also example-8-swapped by refl
+    also example-9-list by (refl, refl)
+    also example-9-test by refl
+    also sum-6-2 by refl
+    also sum-65535-1 by refl
+    also sum-65535-2 by refl
+    also sum-65535-3 by refl
+    also sum-65535-4 by refl
+    also test-on-the-face by refl
+    also test-below-the-face by refl
+    also build-keeps-later-places by built refl refl refl refl
+    also list-keeps-later-places by (refl, refl)
+    also build-by-value-not-size by built refl refl refl refl
+    also build-ties-in-three by built refl refl refl refl
+    also build-equal-points by built refl refl refl refl
+    also list-ties-in-three by (refl, refl)
+    also open-ties-in-three by refl
+    also build-three by built refl refl refl refl
+    also list-three by (refl, refl)
+    also open-three by refl
+    also build-four by built refl refl refl refl
+    also list-four by (refl, refl)
+    also open-four by refl
+    also check-swapped by refl
+    also build-extremes by built refl refl refl refl
+    also list-extremes by (refl, refl)
+    also list-beyond-reach by (refl, refl)
+    also list-zero-face by (refl, refl)
+    also list-zero-face-above-none by (refl, refl)
+    also list-empty by (refl, refl)
+    also build-refuses-k-first by unbuilt refl
+    also check-refuses-no-dimension by refl
+    also build-refuses-n-second by unbuilt refl
+    also build-refuses-points-third by unbuilt refl
+    also build-refuses-room-fourth by unbuilt refl
+    also check-refuses-coordinate-fifth by refl
+    also build-refuses-low-coordinate by unbuilt refl
+    also list-refuses-short-list by (refl, refl)
+    also list-refuses-coordinate by (refl, refl)
+    also list-refuses-h by (refl, refl)
+    also list-refuses-normals by (refl, refl)
+    also list-refuses-offsets by (refl, refl)
+    also list-refuses-component by (refl, refl)
+    also list-refuses-high-component by (refl, refl)
+    also list-refuses-offset by (refl, refl)
+    also list-refuses-low-offset by (refl, refl)
+    also list-refuses-order by (refl, refl)
+    also check-refuses-number-twice by refl
+    also check-refuses-number-of-n by refl
+    also test-refuses-dimension by refl
+    also test-refuses-length by refl
+    also test-refuses-coordinate by refl
+    also test-refuses-h by refl
+    also test-refuses-normals by refl
+    also test-refuses-component by refl
+    also sum-0-3 by refl
+    also square-faces by refl
+    also build-takes-full-shelf by unbuilt refl
+    also list-takes-most-faces by (refl, refl)
+    also list-refuses-dimension by (refl, refl)
+    also list-refuses-n by (refl, refl)
+    also list-refuses-points by (refl, refl)
+    also list-refuses-short-order by (refl, refl)
+    also nothing-left

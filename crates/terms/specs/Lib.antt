@@ -1,0 +1,13 @@
+pub mod Tests
+pub mod Points
+pub mod Before
+pub mod Run
+pub mod Tree
+pub mod Box
+pub mod Region
+pub mod Visits
+pub mod Lists
+pub mod Bound
+pub mod Refusals
+pub mod Calls
+pub mod Examples

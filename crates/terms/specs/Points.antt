@@ -1,0 +1,28 @@
+-- Points: a point is its coordinates by dimension; a shelf's points are lent as one list, point 0 first.
+use mathlib.Core.Bool.{Bool, _&&_}
+use mathlib.Core.List.{List}
+use Prim.Native.Nat.{ℕ, _+_, _*_}
+use lib.ListN.{getD}
+use lib.IntN.{ℤ, pos, negsuc}
+use lib.Signed.{leZ}
+use lib.Dec.{ltb}
+
+-- Coordinate d of a point that is lent alone.
+abbrev pub lone : List ℤ → ℕ → ℤ
+lone point d = getD point d (pos 0)
+
+-- Coordinate d of point p of the lent points, k to a point.
+abbrev pub coord : ℕ → List ℤ → ℕ → ℕ → ℤ
+coord k points p d = getD points (p * k + d) (pos 0)
+
+-- Which numbers belong to a shelf of n: those below n.
+abbrev pub below : ℕ → ℕ → Bool
+below n p = ltb p n
+
+-- The number is from least to greatest, both allowed.
+abbrev pub within : ℤ → ℤ → ℤ → Bool
+within least greatest z = leZ least z && leZ z greatest
+
+-- A coordinate is -32,768 to 32,767.
+abbrev pub isCoordinate : ℤ → Bool
+isCoordinate z = within (negsuc 32767) (pos 32767) z

@@ -1,0 +1,83 @@
+-- The region: faces, above and below, a box's two corners, settled and open.
+use mathlib.Core.Bool.{Bool, _||_, cond, not}
+use mathlib.Core.List.{List}
+use Prim.Native.Nat.{ℕ, _+_, _*_}
+use lib.ListN.{getD}
+use lib.IntN.{ℤ, pos, negsuc, _*ℤ_}
+use lib.Signed.{leZ, nonNeg}
+use Rattle.whole.specs.IndexedSum.{sumTo}
+use Rattle.terms.specs.Tests.{allTo, anyTo}
+use Rattle.terms.specs.Points.{within}
+use Rattle.terms.specs.Box.{Box}
+
+-- k dimensions and h faces: component d of face i's normal, and its offset.
+pub record Region : Type 0 where
+  pub k : ℕ
+  pub h : ℕ
+  pub component : ℕ → ℕ → ℤ
+  pub offset : ℕ → ℤ
+
+-- The region of the lent lists, k components to a face.
+abbrev pub region : ℕ → ℕ → List ℤ → List ℤ → Region
+region k h normals offsets = record {
+  k = k;
+  h = h;
+  component = λ i d. getD normals (i * k + d) (pos 0);
+  offset = λ i. getD offsets i (pos 0);
+}
+
+-- Face i taken as a region alone.
+abbrev pub alone : Region → ℕ → Region
+alone g i = record { k = g .k; h = 1; component = λ z. g .component i; offset = λ z. g .offset i }
+
+-- A component is -32,767 to 32,767.
+abbrev pub isComponent : ℤ → Bool
+isComponent z = within (negsuc 32766) (pos 32767) z
+
+-- An offset is -8,589,934,592 to 8,589,934,592.
+abbrev pub isOffset : ℤ → Bool
+isOffset z = within (negsuc 8589934591) (pos 8589934592) z
+
+-- The sum of products of face i's normal and a point.
+abbrev pub reach : Region → ℕ → (ℕ → ℤ) → ℤ
+reach g i x = sumTo (g .k) (λ d. g .component i d *ℤ x d)
+
+-- A sum of products v is above face i: at least its offset.
+unfoldable pub aboveAt : Region → ℕ → ℤ → Bool
+aboveAt g i v = leZ (g .offset i) v
+
+-- The point is above face i; otherwise it is below.
+abbrev pub above : Region → ℕ → (ℕ → ℤ) → Bool
+above g i x = aboveAt g i (reach g i x)
+
+-- The point is inside: above every face.
+unfoldable pub inside : Region → (ℕ → ℤ) → Bool
+inside g x = allTo (g .h) (λ i. above g i x)
+
+-- The first coordinate where the component is 0 or more, else the second.
+abbrev pub bySign : ℤ → ℤ → ℤ → ℤ
+bySign c a b = cond (nonNeg c) a b
+
+-- The corner of a box furthest against face i's normal.
+abbrev pub against : Region → ℕ → Box → ℕ → ℤ
+against g i b d = bySign (g .component i d) (b .low d) (b .high d)
+
+-- The opposite corner, furthest along the normal.
+abbrev pub along : Region → ℕ → Box → ℕ → ℤ
+along g i b d = bySign (g .component i d) (b .high d) (b .low d)
+
+-- The box is wholly above face i.
+abbrev pub whollyAbove : Region → Box → ℕ → Bool
+whollyAbove g b i = above g i (against g i b)
+
+-- The box is wholly below face i.
+abbrev pub whollyBelow : Region → Box → ℕ → Bool
+whollyBelow g b i = not (above g i (along g i b))
+
+-- A branch with this box is settled: wholly below at least one face, or wholly above all of them.
+unfoldable pub isSettled : Region → Box → Bool
+isSettled g b = anyTo (g .h) (whollyBelow g b) || allTo (g .h) (whollyAbove g b)
+
+-- Otherwise it is open.
+unfoldable pub isOpen : Region → Box → Bool
+isOpen g b = not (isSettled g b)

@@ -1,0 +1,23 @@
+// The values that the calls share: the box as one value, and the answers.
+
+// A box: its least and its greatest coordinate in each dimension. Places from k on are 0.
+pub struct CornerRows {
+    pub low: [i32; 4],
+    pub high: [i32; 4],
+}
+
+// What the list call answers. A refusal has its number and zeros.
+#[repr(C)]
+pub struct Listing {
+    pub code: u32,
+    pub inside: u32,
+    pub outside: u32,
+    pub visits: u32,
+}
+
+// What the test of one point answers: inside is 1 or 0. A refusal has its number and 0.
+#[repr(C)]
+pub struct Placing {
+    pub code: u32,
+    pub inside: u32,
+}
