@@ -1,0 +1,133 @@
+//! The four calls, and functions that look at the visits behind a list.
+
+use crate::lists::{inside_and_outside, places};
+use crate::order::built_order;
+use crate::refusals;
+use crate::region::{faces, inside};
+use crate::shelf::Shelf;
+use crate::visits;
+
+/// The answer of list; on a refusal all but the code is 0.
+#[derive(Clone, Copy, Debug, Default, PartialEq, Eq)]
+pub struct Listing {
+    pub code: u32,
+    pub inside: u32,
+    pub outside: u32,
+    pub visits: u32,
+}
+
+/// The answer of the one-point test: inside is 1 or 0, and 0 on a refusal.
+#[derive(Clone, Copy, Debug, Default, PartialEq, Eq)]
+pub struct Placing {
+    pub code: u32,
+    pub inside: u32,
+}
+
+/// Writes the order of the points into the first `n` places of `order`.
+pub fn build(k: usize, n: usize, points: &[i32], order: &mut [u32]) -> u32 {
+    let code = refusals::of_build(k, n, points, order);
+    if code == 0 {
+        order[..n].copy_from_slice(&built_order(k, n, points));
+    }
+    code
+}
+
+/// Says 0 exactly when the first `n` places of `order` are the built order.
+pub fn check(k: usize, n: usize, points: &[i32], order: &[u32]) -> u32 {
+    refusals::of_check(k, n, points, order)
+}
+
+/// Writes the inside and outside numbers into the first `n` places of `list`.
+#[allow(clippy::too_many_arguments)]
+pub fn list(
+    k: usize,
+    n: usize,
+    h: usize,
+    points: &[i32],
+    order: &[u32],
+    normals: &[i32],
+    offsets: &[i64],
+    list: &mut [u32],
+) -> Listing {
+    let code = refusals::of_list(k, n, h, points, order, normals, offsets, list.len());
+    if code != 0 {
+        return Listing {
+            code,
+            ..Listing::default()
+        };
+    }
+    let slots = &order[..n];
+    let shelf = Shelf { k, points, slots };
+    let faces = faces(k, h, normals, offsets);
+    let (within, without) = inside_and_outside(&shelf, &faces);
+    list[..n].copy_from_slice(&places(&within, &without));
+    Listing {
+        code: 0,
+        inside: within.len() as u32,
+        outside: without.len() as u32,
+        visits: visits::visits(&shelf, &faces),
+    }
+}
+
+/// Tests one point against a region.
+pub fn place(k: usize, h: usize, point: &[i32], normals: &[i32], offsets: &[i64]) -> Placing {
+    let code = refusals::of_place(k, h, point, normals, offsets);
+    if code != 0 {
+        return Placing { code, inside: 0 };
+    }
+    let within = inside(&faces(k, h, normals, offsets), point);
+    Placing {
+        code: 0,
+        inside: u32::from(within),
+    }
+}
+
+/// For each slot, in slot order, whether its branch is open for the region. An
+/// error holds the number that list would refuse with.
+pub fn open_slots(
+    k: usize,
+    n: usize,
+    h: usize,
+    points: &[i32],
+    order: &[u32],
+    normals: &[i32],
+    offsets: &[i64],
+) -> Result<Vec<bool>, u32> {
+    match refusals::of_list(k, n, h, points, order, normals, offsets, n) {
+        0 => {
+            let slots = &order[..n];
+            let shelf = Shelf { k, points, slots };
+            let faces = faces(k, h, normals, offsets);
+            Ok(visits::open_slots(&shelf, &faces))
+        }
+        code => Err(code),
+    }
+}
+
+/// The visits of the region: how many slots are open. An error holds the number
+/// that list would refuse with.
+pub fn visits_of_region(
+    k: usize,
+    n: usize,
+    h: usize,
+    points: &[i32],
+    order: &[u32],
+    normals: &[i32],
+    offsets: &[i64],
+) -> Result<u32, u32> {
+    let open = open_slots(k, n, h, points, order, normals, offsets)?;
+    Ok(open.into_iter().filter(|&is_open| is_open).count() as u32)
+}
+
+/// The visits of one face, its normal and offset m, taken as a region alone. An
+/// error holds the number that list would refuse with.
+pub fn visits_of_face(
+    k: usize,
+    n: usize,
+    points: &[i32],
+    order: &[u32],
+    normal: &[i32],
+    m: i64,
+) -> Result<u32, u32> {
+    visits_of_region(k, n, 1, points, order, normal, &[m])
+}

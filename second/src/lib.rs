@@ -1,0 +1,18 @@
+//! A plain, slow implementation of the scope paper, written from that paper
+//! alone, to compare the library with.
+
+pub mod bound;
+pub mod calls;
+pub mod lists;
+pub mod order;
+pub mod refusals;
+pub mod region;
+pub mod shelf;
+pub mod text;
+pub mod visits;
+
+pub use bound::{binary_digits, is_square, s};
+pub use calls::{
+    build, check, list, open_slots, place, visits_of_face, visits_of_region, Listing, Placing,
+};
+pub use text::shelf_text;

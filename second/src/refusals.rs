@@ -1,0 +1,116 @@
+//! The table of numbers returned, test by test.
+
+use crate::order::is_tree;
+
+/// One test of the table: its number, and whether it holds.
+type Test<'a> = (u32, &'a dyn Fn() -> bool);
+
+/// The number of the first test that holds, 0 when none does. The tests stand
+/// in rising order, and none after the first that holds is made.
+fn lowest(tests: &[Test]) -> u32 {
+    let held = tests.iter().find(|(_, holds)| holds());
+    held.map_or(0, |&(number, _)| number)
+}
+
+/// Number 1: k is not 1 to 4.
+pub fn dimension_wrong(k: usize) -> bool {
+    !(1..=4).contains(&k)
+}
+
+/// Number 2: n is over 65,535.
+pub fn too_many_points(n: usize) -> bool {
+    n > 65_535
+}
+
+/// Numbers 3 and 7: a slice is not exactly `a` times `b` long.
+pub fn not_times_long(length: usize, a: usize, b: usize) -> bool {
+    length as u128 != a as u128 * b as u128
+}
+
+/// Number 4: the order or the list buffer is shorter than n.
+pub fn shorter(length: usize, n: usize) -> bool {
+    length < n
+}
+
+/// Number 5: a coordinate is not -32,768 to 32,767.
+pub fn coordinate_wrong(points: &[i32]) -> bool {
+    points.iter().any(|x| !(-32_768..=32_767).contains(x))
+}
+
+/// Number 6: h is over 32.
+pub fn too_many_faces(h: usize) -> bool {
+    h > 32
+}
+
+/// Number 7: the normals are not k times h long, or the offsets not h.
+pub fn faces_not_long(k: usize, h: usize, normals: &[i32], offsets: &[i64]) -> bool {
+    not_times_long(normals.len(), k, h) || offsets.len() != h
+}
+
+/// Number 8: a component is not -32,767 to 32,767, or an offset is not
+/// -8,589,934,592 to 8,589,934,592.
+pub fn face_wrong(normals: &[i32], offsets: &[i64]) -> bool {
+    let component = |a: &i32| !(-32_767..=32_767).contains(a);
+    let offset = |m: &i64| !(-8_589_934_592..=8_589_934_592).contains(m);
+    normals.iter().any(component) || offsets.iter().any(offset)
+}
+
+/// What build returns: tests 1 to 5.
+pub fn of_build(k: usize, n: usize, points: &[i32], order: &[u32]) -> u32 {
+    lowest(&[
+        (1, &|| dimension_wrong(k)),
+        (2, &|| too_many_points(n)),
+        (3, &|| not_times_long(points.len(), k, n)),
+        (4, &|| shorter(order.len(), n)),
+        (5, &|| coordinate_wrong(points)),
+    ])
+}
+
+/// What check returns: tests 1 to 5 and 9.
+pub fn of_check(k: usize, n: usize, points: &[i32], order: &[u32]) -> u32 {
+    lowest(&[
+        (1, &|| dimension_wrong(k)),
+        (2, &|| too_many_points(n)),
+        (3, &|| not_times_long(points.len(), k, n)),
+        (4, &|| shorter(order.len(), n)),
+        (5, &|| coordinate_wrong(points)),
+        (9, &|| !is_tree(k, n, points, order)),
+    ])
+}
+
+/// What list returns: tests 1 to 9. Of the list buffer only its length counts.
+#[allow(clippy::too_many_arguments)]
+pub fn of_list(
+    k: usize,
+    n: usize,
+    h: usize,
+    points: &[i32],
+    order: &[u32],
+    normals: &[i32],
+    offsets: &[i64],
+    list_length: usize,
+) -> u32 {
+    lowest(&[
+        (1, &|| dimension_wrong(k)),
+        (2, &|| too_many_points(n)),
+        (3, &|| not_times_long(points.len(), k, n)),
+        (4, &|| shorter(order.len(), n) || shorter(list_length, n)),
+        (5, &|| coordinate_wrong(points)),
+        (6, &|| too_many_faces(h)),
+        (7, &|| faces_not_long(k, h, normals, offsets)),
+        (8, &|| face_wrong(normals, offsets)),
+        (9, &|| !is_tree(k, n, points, order)),
+    ])
+}
+
+/// What the one-point test returns: tests 1, 3 and 5 to 8.
+pub fn of_place(k: usize, h: usize, point: &[i32], normals: &[i32], offsets: &[i64]) -> u32 {
+    lowest(&[
+        (1, &|| dimension_wrong(k)),
+        (3, &|| point.len() != k),
+        (5, &|| coordinate_wrong(point)),
+        (6, &|| too_many_faces(h)),
+        (7, &|| faces_not_long(k, h, normals, offsets)),
+        (8, &|| face_wrong(normals, offsets)),
+    ])
+}

@@ -1,0 +1,182 @@
+//! The twelve shelf examples of the scope paper and the rows of S.
+
+use second::{build, check, list, open_slots, place, s, shelf_text, visits_of_face, Listing};
+
+const A: [i32; 12] = [1, 5, 4, 2, 4, 8, 7, 1, 6, 6, 2, 2];
+const A_ORDER: [u32; 6] = [1, 5, 0, 2, 3, 4];
+const TWO_NORMALS: [i32; 4] = [1, 1, -1, 0];
+const TWO_OFFSETS: [i64; 2] = [7, -6];
+
+/// Builds the order of these points, which must be done.
+fn built(k: usize, points: &[i32]) -> Vec<u32> {
+    let mut order = vec![77; points.len() / k];
+    assert_eq!(build(k, order.len(), points, &mut order), 0);
+    assert_eq!(check(k, order.len(), points, &order), 0);
+    order
+}
+
+/// Lists a built shelf: the numbers of the answer and the list.
+fn listed(k: usize, points: &[i32], normals: &[i32], offsets: &[i64]) -> (Listing, Vec<u32>) {
+    let order = built(k, points);
+    let (n, h) = (order.len(), offsets.len());
+    let mut places = vec![88; n];
+    let answer = list(k, n, h, points, &order, normals, offsets, &mut places);
+    (answer, places)
+}
+
+/// A done answer.
+fn done(inside: u32, outside: u32, visits: u32) -> Listing {
+    Listing {
+        code: 0,
+        inside,
+        outside,
+        visits,
+    }
+}
+
+/// Example 1.
+#[test]
+fn example_1_order_of_a() {
+    assert_eq!(built(2, &A), A_ORDER);
+}
+
+/// Example 2, and the box of slot 0 that alone is settled.
+#[test]
+fn example_2_two_faces() {
+    let (answer, places) = listed(2, &A, &TWO_NORMALS, &TWO_OFFSETS);
+    assert_eq!(answer, done(2, 4, 5));
+    assert_eq!(places, [2, 4, 3, 0, 5, 1]);
+    let open = open_slots(2, 6, 2, &A, &A_ORDER, &TWO_NORMALS, &TWO_OFFSETS);
+    assert_eq!(open, Ok(vec![false, true, true, true, true, true]));
+    let shelf = second::shelf::Shelf {
+        k: 2,
+        points: &A,
+        slots: &A_ORDER,
+    };
+    let root = second::visits::root_box(&shelf).unwrap();
+    let bx = second::visits::branch_box(&shelf, &root, 0);
+    assert_eq!((bx.least, bx.greatest), (vec![1, 1], vec![4, 2]));
+}
+
+/// Example 2 as the program prints it.
+#[test]
+fn example_2_as_text() {
+    let input = b"2 6 2\n1 5\n4 2\n4 8\n7 1\n6 6\n2 2\n1 1 7\n-1 0 -6\n";
+    let output = b"order 1 5 0 2 3 4\ncount 2 4 5\nlist 2 4 3 0 5 1\n";
+    assert_eq!(shelf_text(input), output);
+}
+
+/// Example 3.
+#[test]
+fn example_3_one_square_face() {
+    let (answer, places) = listed(2, &A, &[1, 0], &[5]);
+    assert_eq!(answer, done(2, 4, 3));
+    assert_eq!(places, [3, 4, 2, 0, 5, 1]);
+    assert_eq!(visits_of_face(2, 6, &A, &A_ORDER, &[1, 0], 5), Ok(3));
+}
+
+/// Example 4.
+#[test]
+fn example_4_all_inside_or_outside() {
+    assert_eq!(listed(2, &A, &[1, 0], &[1]).0, done(6, 0, 0));
+    assert_eq!(listed(2, &A, &[1, 0], &[8]).0, done(0, 6, 0));
+}
+
+/// Example 5.
+#[test]
+fn example_5_points_on_the_face_are_inside() {
+    let (answer, places) = listed(2, &A, &[1, 1], &[6]);
+    let inside = &places[..answer.inside as usize];
+    assert!(inside.contains(&0) && inside.contains(&1));
+    assert_eq!(place(2, 1, &A[0..2], &[1, 1], &[6]).inside, 1);
+    assert_eq!(place(2, 1, &A[2..4], &[1, 1], &[6]).inside, 1);
+}
+
+/// Example 6.
+#[test]
+fn example_6_no_faces() {
+    let (answer, places) = listed(2, &A, &[], &[]);
+    assert_eq!(answer, done(6, 0, 0));
+    assert_eq!(places, A_ORDER);
+}
+
+/// Example 7.
+#[test]
+fn example_7_bound_reached() {
+    assert_eq!(built(1, &[0, 10]), [0, 1]);
+    assert_eq!(listed(1, &[0, 10], &[1], &[5]).0, done(1, 1, 2));
+    assert_eq!(s(2, 1), 2);
+}
+
+/// Example 8.
+#[test]
+fn example_8_ties() {
+    assert_eq!(built(1, &[3, 3, 3]), [0, 1, 2]);
+    assert_eq!(check(1, 3, &[3, 3, 3], &[1, 0, 2]), 9);
+}
+
+/// Example 9.
+#[test]
+fn example_9_one_point() {
+    let (answer, places) = listed(2, &[4, 2], &TWO_NORMALS, &TWO_OFFSETS);
+    assert_eq!((answer, places), (done(0, 1, 0), vec![0]));
+    let placing = place(2, 2, &[4, 2], &TWO_NORMALS, &TWO_OFFSETS);
+    assert_eq!((placing.code, placing.inside), (0, 0));
+}
+
+/// Example 10.
+#[test]
+fn example_10_dimension_and_count() {
+    for (k, code) in [(0, 1), (1, 0), (4, 0), (5, 1)] {
+        assert_eq!(build(k, 2, &vec![0; 2 * k], &mut [9, 9]), code);
+        assert_eq!(check(k, 2, &vec![0; 2 * k], &[0, 1]), code);
+        let answer = list(k, 2, 0, &vec![0; 2 * k], &[0, 1], &[], &[], &mut [9, 9]);
+        assert_eq!(answer.code, code);
+        assert_eq!(place(k, 0, &vec![0; k], &[], &[]).code, code);
+    }
+    let mut order = vec![0; 65_536];
+    assert_eq!(build(1, 65_536, &vec![0; 65_536], &mut order), 2);
+}
+
+/// Example 11.
+#[test]
+fn example_11_coordinate_and_component() {
+    assert_eq!(build(1, 1, &[32_767], &mut [0]), 0);
+    assert_eq!(build(1, 1, &[32_768], &mut [0]), 5);
+    assert_eq!(place(1, 1, &[0], &[-32_767], &[0]).code, 0);
+    assert_eq!(place(1, 1, &[0], &[-32_768], &[0]).code, 8);
+}
+
+/// Example 12.
+#[test]
+fn example_12_zero_normal() {
+    assert_eq!(listed(2, &A, &[0, 0], &[0]).0, done(6, 0, 0));
+    assert_eq!(listed(2, &A, &[0, 0], &[1]).0, done(0, 6, 0));
+}
+
+/// The rows of S.
+#[test]
+fn rows_of_s() {
+    assert_eq!(s(6, 2), 5);
+    assert_eq!(s(65_535, 1), 16);
+    assert_eq!(s(65_535, 2), 765);
+    assert_eq!(s(65_535, 3), 3_411);
+    assert_eq!(s(65_535, 4), 8_775);
+}
+
+/// The ends of S: nothing for no points, and no overflow at the greatest n.
+#[test]
+fn ends_of_s() {
+    assert_eq!(s(0, 2), 0);
+    assert_eq!(s(1, 3), 1);
+    assert_eq!(s(usize::MAX, 0), 0);
+    assert_eq!(s(u64::MAX as usize, usize::MAX), u64::MAX);
+}
+
+/// Square faces, the zero normal among them.
+#[test]
+fn square_faces() {
+    assert!(second::is_square(&[0, 0, 0]));
+    assert!(second::is_square(&[0, -5, 0]));
+    assert!(!second::is_square(&[1, 0, 1]));
+}

@@ -1,0 +1,43 @@
+//! Full shelves: 65,535 points and 32 faces in each dimension.
+
+use second::{build, check, list, s};
+use std::time::Instant;
+
+const N: usize = 65_535;
+
+/// Coordinates over the whole range, from a simple multiplying row.
+fn coordinates(count: usize) -> Vec<i32> {
+    let mut state = 1u64;
+    let next = |_| {
+        state = state.wrapping_mul(6_364_136_223_846_793_005) + 1_442_695;
+        (state >> 48) as i32 - 32_768
+    };
+    (0..count).map(next).collect()
+}
+
+/// Builds, checks and lists a full shelf with 32 square faces, and shows the time.
+#[test]
+fn full_shelves() {
+    for k in 1..=4 {
+        let points = coordinates(k * N);
+        let mut order = vec![0; N];
+        let mut places = vec![0; N];
+        let start = Instant::now();
+        assert_eq!(build(k, N, &points, &mut order), 0);
+        let built = start.elapsed();
+        assert_eq!(check(k, N, &points, &order), 0);
+        let normals: Vec<i32> = (0..32 * k)
+            .map(|i| if i % k == (i / k) % k { 32_767 } else { 0 })
+            .collect();
+        let offsets: Vec<i64> = (0..32).map(|face| -32_767 * (20_000 + face)).collect();
+        let start = Instant::now();
+        let answer = list(k, N, 32, &points, &order, &normals, &offsets, &mut places);
+        println!(
+            "k {k}: build {built:?}, list {:?}, {answer:?}",
+            start.elapsed()
+        );
+        assert_eq!(answer.code, 0);
+        assert_eq!(answer.inside + answer.outside, 65_535);
+        assert!(u64::from(answer.visits) <= 32 * s(N, k));
+    }
+}

@@ -1,0 +1,261 @@
+//! Limits on both sides, the rising order of the tests, and what a refusal
+//! leaves alone.
+
+use second::{build, check, list, open_slots, place, Listing, Placing};
+
+const M: i64 = 8_589_934_592;
+
+/// The arguments of a list call, all right at first.
+#[derive(Clone)]
+struct Lent {
+    k: usize,
+    n: usize,
+    h: usize,
+    points: Vec<i32>,
+    order: Vec<u32>,
+    normals: Vec<i32>,
+    offsets: Vec<i64>,
+    list: Vec<u32>,
+}
+
+/// A right call: two points of one dimension and one face.
+fn right() -> Lent {
+    Lent {
+        k: 1,
+        n: 2,
+        h: 1,
+        points: vec![0, 10],
+        order: vec![0, 1, 70],
+        normals: vec![1],
+        offsets: vec![5],
+        list: vec![80, 81, 82],
+    }
+}
+
+/// Calls list and gives its answer with the buffer afterwards.
+fn called(lent: &Lent) -> (Listing, Vec<u32>) {
+    let mut buffer = lent.list.clone();
+    let answer = list(
+        lent.k,
+        lent.n,
+        lent.h,
+        &lent.points,
+        &lent.order,
+        &lent.normals,
+        &lent.offsets,
+        &mut buffer,
+    );
+    (answer, buffer)
+}
+
+/// Asks that list refuses with this number and writes nothing.
+fn refuses(lent: &Lent, code: u32) {
+    let (answer, buffer) = called(lent);
+    let refusal = Listing {
+        code,
+        ..Listing::default()
+    };
+    assert_eq!(answer, refusal);
+    assert_eq!(buffer, lent.list);
+}
+
+/// A change that brings one refusal about.
+type Break = (u32, fn(&mut Lent));
+
+/// One break for each number, from 9 down to 1, so that each later one must
+/// hide those before it.
+const BREAKS: [Break; 9] = [
+    (9, |lent| lent.order[0] = 1),
+    (8, |lent| lent.normals[0] = 32_768),
+    (7, |lent| lent.offsets.push(0)),
+    (6, |lent| lent.h = 33),
+    (5, |lent| lent.points[0] = -32_769),
+    (4, |lent| lent.list.truncate(1)),
+    (3, |lent| lent.points.push(0)),
+    (2, |lent| lent.n = 65_536),
+    (1, |lent| lent.k = 5),
+];
+
+/// Each break alone: its own number, save that h 33, n 65,536 and k 5 come first
+/// though they break lengths too.
+#[test]
+fn list_refuses_each_alone() {
+    for (code, change) in BREAKS {
+        let mut lent = right();
+        change(&mut lent);
+        refuses(&lent, code);
+    }
+}
+
+/// Any two breaks together: the lower number.
+#[test]
+fn list_refuses_the_lower_of_two() {
+    for (high, first) in BREAKS {
+        for (low, second) in BREAKS.into_iter().filter(|&(low, _)| low < high) {
+            let mut lent = right();
+            first(&mut lent);
+            second(&mut lent);
+            refuses(&lent, low);
+        }
+    }
+}
+
+/// All breaks heaped up from 9 to 1: always the lowest so far.
+#[test]
+fn list_refuses_in_rising_order() {
+    let mut lent = right();
+    for (code, change) in BREAKS {
+        change(&mut lent);
+        refuses(&lent, code);
+    }
+}
+
+/// A done list writes the first n places only.
+#[test]
+fn list_leaves_later_places() {
+    let (answer, buffer) = called(&right());
+    assert_eq!(answer.code, 0);
+    assert_eq!(buffer, [1, 0, 82]);
+}
+
+/// Build refuses in rising order and leaves the order as it was.
+#[test]
+fn build_refuses_in_rising_order() {
+    let mut order = [7, 8, 9];
+    assert_eq!(build(5, 65_536, &[32_768], &mut order), 1);
+    assert_eq!(build(1, 65_536, &[32_768], &mut order), 2);
+    assert_eq!(build(1, 4, &[32_768], &mut order), 3);
+    assert_eq!(build(1, 4, &[32_768; 4], &mut order), 4);
+    assert_eq!(build(1, 3, &[0, 0, 32_768], &mut order), 5);
+    assert_eq!(order, [7, 8, 9]);
+    assert_eq!(build(1, 2, &[1, 0], &mut order), 0);
+    assert_eq!(order, [1, 0, 9]);
+}
+
+/// Check refuses in rising order.
+#[test]
+fn check_refuses_in_rising_order() {
+    assert_eq!(check(0, 65_536, &[32_768], &[0]), 1);
+    assert_eq!(check(4, 65_536, &[32_768], &[0]), 2);
+    assert_eq!(check(4, 2, &[32_768], &[0]), 3);
+    assert_eq!(check(1, 2, &[0, 32_768], &[1]), 4);
+    assert_eq!(check(1, 2, &[0, 32_768], &[1, 0]), 5);
+    assert_eq!(check(1, 2, &[0, 1], &[1, 0]), 9);
+    assert_eq!(check(1, 2, &[0, 1], &[0, 1, 1]), 0);
+}
+
+/// Check says 9 for a number twice and for a number at least n.
+#[test]
+fn check_refuses_strange_numbers() {
+    let points = [5, 5, 5];
+    assert_eq!(check(1, 3, &points, &[0, 1, 2]), 0);
+    for order in [[0, 1, 1], [0, 1, 3], [0, 1, u32::MAX], [0, 0, 0]] {
+        assert_eq!(check(1, 3, &points, &order), 9);
+    }
+}
+
+/// The one-point test refuses in rising order.
+#[test]
+fn place_refuses_in_rising_order() {
+    let refusal = |code| Placing { code, inside: 0 };
+    assert_eq!(place(5, 33, &[32_768], &[-32_768], &[]), refusal(1));
+    assert_eq!(place(2, 33, &[32_768], &[-32_768], &[]), refusal(3));
+    assert_eq!(place(1, 33, &[32_768], &[-32_768], &[]), refusal(5));
+    assert_eq!(place(1, 33, &[0], &[-32_768], &[]), refusal(6));
+    assert_eq!(place(1, 1, &[0], &[-32_768], &[]), refusal(7));
+    assert_eq!(place(1, 1, &[0], &[-32_768], &[0]), refusal(8));
+    let done = Placing { code: 0, inside: 1 };
+    assert_eq!(place(1, 1, &[0], &[-32_767], &[0]), done);
+    assert_eq!(place(1, 0, &[0], &[], &[]), done);
+}
+
+/// Coordinates, components and offsets, on both sides of both limits.
+#[test]
+fn ranges_on_both_sides() {
+    for (x, code) in [(-32_769, 5), (-32_768, 0), (32_767, 0), (32_768, 5)] {
+        assert_eq!(build(1, 1, &[x], &mut [0]), code);
+        assert_eq!(check(1, 1, &[x], &[0]), code);
+        assert_eq!(place(1, 0, &[x], &[], &[]).code, code);
+    }
+    for (a, code) in [(-32_768, 8), (-32_767, 0), (32_767, 0), (32_768, 8)] {
+        assert_eq!(place(1, 1, &[0], &[a], &[0]).code, code);
+    }
+    for (m, code) in [(-M - 1, 8), (-M, 0), (M, 0), (M + 1, 8)] {
+        assert_eq!(place(1, 1, &[0], &[0], &[m]).code, code);
+    }
+    for x in [i32::MIN, i32::MAX] {
+        assert_eq!(build(1, 1, &[x], &mut [0]), 5);
+        assert_eq!(place(1, 1, &[0], &[x], &[0]).code, 8);
+        assert_eq!(place(1, 1, &[0], &[0], &[i64::MIN]).code, 8);
+    }
+}
+
+/// Lengths one too short and one too long.
+#[test]
+fn lengths_on_both_sides() {
+    for (length, code) in [(5, 3), (6, 0), (7, 3)] {
+        assert_eq!(build(2, 3, &vec![0; length], &mut [0; 3]), code);
+    }
+    for (length, code) in [(2, 4), (3, 0), (4, 0)] {
+        assert_eq!(build(2, 3, &[0; 6], &mut vec![0; length]), code);
+    }
+    for (length, code) in [(3, 7), (4, 0), (5, 7)] {
+        assert_eq!(place(2, 2, &[0; 2], &vec![0; length], &[0; 2]).code, code);
+    }
+    for (length, code) in [(1, 7), (2, 0), (3, 7)] {
+        assert_eq!(place(2, 2, &[0; 2], &[0; 4], &vec![0; length]).code, code);
+    }
+    for (length, code) in [(2, 3), (3, 0), (4, 3)] {
+        assert_eq!(place(3, 0, &vec![0; length], &[], &[]).code, code);
+    }
+}
+
+/// Counts of points and faces on both sides of their limits.
+#[test]
+fn counts_on_both_sides() {
+    for (n, code) in [(65_535, 0), (65_536, 2)] {
+        assert_eq!(build(1, n, &vec![0; n], &mut vec![0; n]), code);
+    }
+    for (h, code) in [(0, 0), (32, 0), (33, 6)] {
+        assert_eq!(place(1, h, &[0], &vec![0; h], &vec![0; h]).code, code);
+    }
+}
+
+/// The order or the list buffer being short is number 4 for list alike.
+#[test]
+fn list_tests_both_buffers() {
+    let mut lent = right();
+    lent.order.truncate(1);
+    refuses(&lent, 4);
+    let mut lent = right();
+    lent.list.truncate(1);
+    refuses(&lent, 4);
+    let mut lent = right();
+    lent.order.truncate(2);
+    lent.list.truncate(2);
+    assert_eq!(called(&lent).0.code, 0);
+}
+
+/// The greatest numbers of all neither overflow nor panic.
+#[test]
+fn greatest_numbers_are_refused() {
+    let most = usize::MAX;
+    assert_eq!(build(most, most, &[], &mut []), 1);
+    assert_eq!(build(4, most, &[], &mut []), 2);
+    assert_eq!(check(4, most / 4 + 1, &[], &[]), 2);
+    assert_eq!(place(4, most, &[0; 4], &[], &[]).code, 6);
+    let answer = list(4, 0, most / 4 + 1, &[], &[], &[], &[], &mut []);
+    assert_eq!(answer.code, 6);
+    assert_eq!(open_slots(4, 0, most, &[], &[], &[], &[]), Err(6));
+}
+
+/// The empty shelf: done, nothing listed, no visits.
+#[test]
+fn empty_shelf() {
+    assert_eq!(build(4, 0, &[], &mut [5]), 0);
+    assert_eq!(check(4, 0, &[], &[]), 0);
+    let mut buffer = [6];
+    let answer = list(1, 0, 1, &[], &[], &[1], &[5], &mut buffer);
+    assert_eq!((answer, buffer), (Listing::default(), [6]));
+    assert_eq!(open_slots(1, 0, 1, &[], &[], &[1], &[5]), Ok(vec![]));
+}
