@@ -1,0 +1,311 @@
+-- The descent, a branch and its node in turn. The measures are 2 c + 1 for a branch of c slots and 2 c for its node. Where the node is allowed
+-- the descent's law, `two-branches`, gives the answer by the two branches, once the parts lent to the calls are seen to be the left and the
+-- right branch and the key to be the node's.
+use mathlib.Core.Path.{_≡_, sym, ap, _∙_}
+use mathlib.Core.Bool.{Bool, true, _&&_}
+use mathlib.Core.List.{List}
+use Prim.Native.Nat.{ℕ, _+_, _-_, _*_, _/_, _<_}
+use native.Mathlib.Nat.{sub-zero, mod-lt}
+use native.Mathlib.Omega.{arith}
+use lib.ListN.{length, take, drop, set, length-take, length-set}
+use lib.Seq.{take-all}
+use Rattle.terms.specs.Points.{coord, below}
+use Rattle.terms.specs.Run.{middle, node, lefts, rights}
+use Rattle.theory.specs.Answers.{refused, accepted}
+use Rattle.theory.specs.RunParts.{right-length}
+use Rattle.theory.specs.TreeDepth.{next-depth}
+use Rattle.arrange.specs.Key.{keyOf}
+use Rattle.arrange.specs.Allowed.{allowed}
+use Rattle.arrange.specs.Descent.{empty-branch, lone-slot, refused-node, two-branches}
+use Rattle.arrange.specs.Checked.{branchAllowed, numberAllowed, keyed, ordered, key-below-last}
+use borrow.Fn.Kinds.{In}
+use borrow.Fn.PlainCycle.{Measures, is, falls, and}
+use Rattle.arrange.proofs.check.branch.Reads as branch-reads
+use Rattle.arrange.proofs.check.branch.Kinds as branch-kinds
+use Rattle.arrange.proofs.check.+branch+node.Lts-branch as branch-lts
+use Rattle.arrange.proofs.check.node.Reads as node-reads
+use Rattle.arrange.proofs.check.node.Kinds as node-kinds
+use Rattle.arrange.proofs.check.+branch+node.Lts-node as node-lts
+use Rattle.arrange.proofs.axis.next_axis.Reads as next-axis-reads
+use Rattle.arrange.proofs.check.allowed.Reads as allowed-reads
+use Rattle.arrange.proofs.key.key.Reads as key-reads
+use Rattle.arrange.proofs.check.+branch+node.{statement}
+use Rattle.arrange.proofs.check.+branch+node.Tie.{close}
+
+-- The parts that are lent are the branches.
+lent-left : (run : List ℕ) → take (middle (length run) - 0) run ≡ lefts run
+lent-left run = ap (λ (i : ℕ). take i run) (sub-zero (middle (length run)))
+
+lent-right : (run : List ℕ) → take (length run - (middle (length run) + 1)) (drop (middle (length run) + 1) run) ≡ rights run
+lent-right run = take-all (length run - (middle (length run) + 1)) (rights run) (omega (arith, right-length run))
+
+abbrev μ-branch : Measures 4 branch-kinds.ps ℕ
+μ-branch κs a = 2 * length (a .1 .1 .1 .0 .now) + 1
+
+abbrev μ-node : Measures 4 node-kinds.ps ℕ
+μ-node κs a = 2 * length (a .1 .1 .1 .0 .now)
+
+-- A branch.
+module _ (t : ℕ) where
+  abbrev branch-at : In 4 branch-kinds.ps
+  branch-at = and 4 branch-kinds.ps (is 4 branch-kinds.ps μ-branch t) branch-reads.Pre
+
+  abbrev node-below : In 4 node-kinds.ps
+  node-below = and 4 node-kinds.ps (falls 4 node-kinds.ps _<_ μ-node t) node-reads.Pre
+
+  -- What the calls ask and tell.
+  abbrev branch-calls : branch-lts.Claims
+  branch-calls = (allowed-reads.Asked, allowed-reads.Learnt, node-below, node-reads.Post)
+
+  empty-returns : branch-lts.Need-returns branch-calls branch-at branch-reads.Post
+  empty-returns c = sym (empty-branch _ _ _ _ _ _ _ _ (c .if1 .taken))
+
+  slot-read : branch-lts.Need-shared-slice-read-allowed branch-calls branch-at branch-reads.Post
+  slot-read c = omega (arith, c .before .if2 .taken)
+
+  slot-requires : branch-lts.Need-allowed-requires branch-calls branch-at branch-reads.Post
+  slot-requires c κs = c .before .before .before .before .pre .1 .tested
+
+  slot-returns : branch-lts.Need-returns-2 branch-calls branch-at branch-reads.Post
+  slot-returns c = c .allowed .ensures ∙ lone-slot _ _ _ _ _ _ _ _ (c .before .before .if2 .taken)
+
+  node-requires : branch-lts.Need-node-requires branch-calls branch-at branch-reads.Post
+  node-requires c κs =
+      let b = c .before .before .before in
+      (omega (arith, b .pre .0), (b .pre .1, omega (arith, c .before .if1 .left)))
+
+  node-answers : branch-lts.Need-returns-3 branch-calls branch-at branch-reads.Post
+  node-answers c = c .node .ensures
+
+-- A node.
+module _ (t : ℕ) where
+  abbrev at : In 4 node-kinds.ps
+  at = and 4 node-kinds.ps (is 4 node-kinds.ps μ-node t) node-reads.Pre
+
+  abbrev branch-below : In 4 branch-kinds.ps
+  branch-below = and 4 branch-kinds.ps (falls 4 branch-kinds.ps _<_ μ-branch t) branch-reads.Pre
+
+  -- What the calls ask and tell.
+  abbrev calls : node-lts.Claims
+  calls = (
+    allowed-reads.Asked,
+    allowed-reads.Learnt,
+    key-reads.Asked,
+    key-reads.Learnt,
+    next-axis-reads.Asked,
+    next-axis-reads.Learnt,
+    branch-below,
+    branch-reads.Post,
+  )
+
+  -- The answer that is given on a run within bounds, and the test of a number.
+  abbrev answer : node-lts.Start calls at node-reads.Post → List ℕ → List ℕ → ℕ → List ℕ → Bool
+  answer b = branchAllowed (b .args .k) (b .args .m) (b .args .points .now)
+
+  abbrev test : node-lts.Start calls at node-reads.Post → ℕ → Bool
+  test b = numberAllowed (b .args .k) (b .args .m) (b .args .points .now) (b .args .least .now) (b .args .end .now)
+
+  mul-p : node-lts.Need-mul-p calls at node-reads.Post
+  mul-p c = omega arith
+
+  read-p : node-lts.Need-shared-slice-read-p calls at node-reads.Post
+  read-p c = omega (arith, c .before .before .pre .1 .1)
+
+  allowed-requires : node-lts.Need-allowed-requires calls at node-reads.Post
+  allowed-requires c κs = c .before .before .pre .1 .0 .tested
+
+  returns : node-lts.Need-returns calls at node-reads.Post
+  returns c = sym (refused-node _ _ _ _ _ _ _ _ (c .before .before .before .before .pre .1 .1) (refused (c .before .allowed .ensures) (c .if1 .taken)))
+
+  -- Past its test the node is allowed, and its number belongs.
+  node-allowed : (c : node-lts.Else1 calls at node-reads.Post)
+      → (let b = c .before .before .before .before in test b (node (b .args .order .now)) ≡ true)
+  node-allowed c = accepted (c .before .allowed .ensures) (c .if1 .left)
+
+  node-belongs : (c : node-lts.Else1 calls at node-reads.Post)
+      → (let a = c .before .before .before .before .args in below (a .m) (node (a .order .now)) ≡ true)
+  node-belongs c = allowed _ _ _ _ _ _ (node-allowed c) .belonging
+
+  key-requires : node-lts.Need-key-requires calls at node-reads.Post
+  key-requires c κs =
+      let b = c .before .before .before .before in
+      let p = b .pre .1 .0 in
+      keyed (p .tested) (b .args .s) (node (b .args .order .now)) (p .dimension) (node-belongs c)
+
+  next-axis-requires : node-lts.Need-next-axis-requires calls at node-reads.Post
+  next-axis-requires c κs = c .before .before .before .before .before .pre .1 .0 .dimension
+
+  -- The answers that are asked of the two branches.
+  abbrev on-left : node-lts.After-next-axis calls at node-reads.Post → Bool
+  on-left c =
+      let b = c .before .before .before .before .before .before in
+      let run = b .args .order .now in
+      answer b (b .args .least .now) (set (b .args .end .now) (b .args .s) (c .before .key .result)) (c .next-axis .result) (take (length run / 2 - 0) run)
+
+  abbrev on-right : node-lts.After-next-axis calls at node-reads.Post → Bool
+  on-right c =
+      let b = c .before .before .before .before .before .before in
+      let run = b .args .order .now in
+      let part = take (length run - (length run / 2 + 1)) (drop (length run / 2 + 1) run) in
+      answer b (set (b .args .least .now) (b .args .s) (c .before .key .result + 1)) (b .args .end .now) (c .next-axis .result) part
+
+  -- The run's answer by theirs.
+  step : (c : node-lts.After-next-axis calls at node-reads.Post) → (let b = c .before .before .before .before .before .before in
+      answer b (b .args .least .now) (b .args .end .now) (b .args .s) (b .args .order .now) ≡ (on-left c && on-right c))
+  step c =
+      let b = c .before .before .before .before .before .before in
+      let a = b .args in
+      let p = b .pre .1 .0 in
+      rw (c .before .key .ensures, lent-left, lent-right) (two-branches
+      (a .k)
+      (coord (a .k) (a .points .now))
+      (below (a .m))
+      (keyOf (a .k) (a .points .now))
+      (ordered (p .tested))
+      (a .least .now)
+      (a .end .now)
+      (a .s)
+      (c .next-axis .result)
+      (a .order .now)
+      (b .pre .1 .1)
+      (p .dimension)
+      (omega (arith, p))
+      (omega (arith, p))
+      (next-depth (a .k) (a .s) (c .next-axis .result) (c .next-axis .ensures))
+      (node-allowed (c .before .before)))
+
+  -- The dimension is one of the four that bounds are kept for, and the next dimension is a dimension.
+  four : (b : node-lts.Start calls at node-reads.Post) → b .args .s < 4
+  four b = omega (arith, b .pre .1 .0)
+
+  next-below : (c : node-lts.After-next-axis calls at node-reads.Post) → c .next-axis .result < c .before .before .before .before .before .before .args .k
+  next-below c =
+      let b = c .before .before .before .before .before .before in
+      rw (c .next-axis .ensures) (mod-lt (b .args .s + 1) (omega (arith, b .pre .1 .0)))
+
+  mul-left-end : node-lts.Need-mul-left-end calls at node-reads.Post
+  mul-left-end c = omega (arith, four (c .before .before .before .before .before .before .before))
+
+  write-left-end : node-lts.Need-array-write-left-end calls at node-reads.Post
+  write-left-end c = four (c .before .before .before .before .before .before .before)
+
+  sub-left : node-lts.Need-sub-branch calls at node-reads.Post
+  sub-left c = omega arith
+
+  left-start : node-lts.Need-part-branch-start calls at node-reads.Post
+  left-start c = omega arith
+
+  left-stop : node-lts.Need-part-branch-end calls at node-reads.Post
+  left-stop c = omega arith
+
+  left-requires : node-lts.Need-branch-requires calls at node-reads.Post
+  left-requires c κs =
+      let b = c .before .before .before .before .before .before .before .before .before in
+      let a = b .args in
+      let p = b .pre .1 .0 in (
+        omega (arith, b .pre .0, b .pre .1 .1, length-take (length (a .order .now) / 2 - 0) (a .order .now)),
+        record {
+          tested = p .tested;
+          dimension = next-below (c .before .before .before);
+          least-size = p .least-size;
+          end-size = rw length-set (p .end-size);
+        },
+      )
+
+  left-answer : (c : node-lts.After-branch calls at node-reads.Post) → c .branch .result ≡ on-left (c .before .before .before .before)
+  left-answer c = c .branch .ensures
+
+  returns-2 : node-lts.Need-returns-2 calls at node-reads.Post
+  returns-2 c = sym (step (c .before .before .before .before .before) ∙ rw (refused (left-answer (c .before)) (c .if2 .taken)))
+
+  add-right-least : node-lts.Need-add-right-least calls at node-reads.Post
+  add-right-least c =
+      let e = c .before .before .before .before .before .before .before in
+      let b = e .before .before .before .before .before in
+      let p = b .pre .1 .0 in
+      let small = key-below-last (p .tested) (b .args .s) (node (b .args .order .now)) (p .dimension) (node-belongs (e .before)) in
+      omega (arith, e .key .ensures, small)
+
+  mul-right-least : node-lts.Need-mul-right-least calls at node-reads.Post
+  mul-right-least c = omega (arith, four (c .before .before .before .before .before .before .before .before .before .before .before .before))
+
+  write-right-least : node-lts.Need-array-write-right-least calls at node-reads.Post
+  write-right-least c = four (c .before .before .before .before .before .before .before .before .before .before .before .before)
+
+  add-r : node-lts.Need-add-r calls at node-reads.Post
+  add-r c = omega arith
+
+  mul-right : node-lts.Need-mul-branch calls at node-reads.Post
+  mul-right c = omega arith
+
+  sub-right : node-lts.Need-sub-branch-2 calls at node-reads.Post
+  sub-right c = omega (arith, c .before .before .before .before .before .before .before .before .before .before .before .before .pre .1 .1)
+
+  right-start : node-lts.Need-part-branch-start-2 calls at node-reads.Post
+  right-start c = omega (arith, c .before .before .before .before .before .before .before .before .before .before .before .before .pre .1 .1)
+
+  right-stop : node-lts.Need-part-branch-end-2 calls at node-reads.Post
+  right-stop c = omega arith
+
+  right-requires : node-lts.Need-branch-requires-2 calls at node-reads.Post
+  right-requires c κs =
+      let b = c .before .before .before .before .before .before .before .before .before .before .before .before .before .before in
+      let a = b .args in
+      let p = b .pre .1 .0 in
+      let h : ℕ = length (a .order .now) / 2 in (
+        omega (arith, b .pre .0, b .pre .1 .1, length-take (length (a .order .now) - (h + 1)) (drop (h + 1) (a .order .now))),
+        record {
+          tested = p .tested;
+          dimension = next-below (c .before .before .before .before .before .before .before .before);
+          least-size = rw length-set (p .least-size);
+          end-size = p .end-size;
+        },
+      )
+
+  right-answer : (c : node-lts.After-branch2 calls at node-reads.Post)
+      → c .branch2 .result ≡ on-right (c .before .before .before .before .before .before .before .before .before)
+  right-answer c = c .branch2 .ensures
+
+  returns-3 : node-lts.Need-returns-3 calls at node-reads.Post
+  returns-3 c =
+      let left-yes = accepted (left-answer (c .before .before .before .before .before)) (c .before .before .before .before .if2 .left) in
+      right-answer c ∙ sym (step (c .before .before .before .before .before .before .before .before .before) ∙ rw left-yes)
+
+pub +branch+node-spec : {M : Type 1} → statement M
++branch+node-spec = close μ-branch μ-node (λ t. branch-lts.spec
+    (branch-calls t)
+    (branch-at t)
+    branch-reads.Post
+    (empty-returns t)
+    (slot-read t)
+    (slot-requires t)
+    (slot-returns t)
+    (node-requires t)
+    (node-answers t))
+    λ t. node-lts.spec
+    (calls t)
+    (at t)
+    node-reads.Post
+    (mul-p t)
+    (read-p t)
+    (allowed-requires t)
+    (returns t)
+    (key-requires t)
+    (next-axis-requires t)
+    (mul-left-end t)
+    (write-left-end t)
+    (sub-left t)
+    (left-start t)
+    (left-stop t)
+    (left-requires t)
+    (returns-2 t)
+    (add-right-least t)
+    (mul-right-least t)
+    (write-right-least t)
+    (add-r t)
+    (mul-right t)
+    (sub-right t)
+    (right-start t)
+    (right-stop t)
+    (right-requires t)
+    (returns-3 t)

@@ -1,0 +1,136 @@
+-- What the checker allows in a branch: numbers that belong, and whose key on every dimension lies within the branch's bounds.
+-- A branch narrows its parent's bounds by its node's key, which says just that its numbers come before the node, or after it.
+use mathlib.Core.Path.{_≡_, sym, ap, _∙_}
+use mathlib.Core.Bool.{Bool, true, false, _&&_}
+use mathlib.Core.Logic.{_⊎_, inl, inr}
+use mathlib.Core.List.{List}
+use Prim.Native.Nat.{ℕ, _+_, _≤_, _<_}
+use native.Mathlib.Decide.{ℕ-discrete}
+use native.Mathlib.Omega.{arith}
+use lib.ListN.{length, getD, set}
+use lib.Seq.{getD-set-same, getD-set-other}
+use lib.IntN.{ℤ}
+use lib.Dec.{leb, ltb}
+use borrow.Author.Tests.{leb-true, le-leb, lt-leb, ltb-true, lt-ltb, le-ltb}
+use Rattle.terms.specs.Tests.{allTo}
+use Rattle.terms.specs.Before.{before}
+use Rattle.theory.specs.Flags.{and-true, true-and, and-no}
+use Rattle.theory.specs.AllAndAny.{all-each, each-all, one-all-false}
+
+-- The key lies within the bounds of dimension d: at least the least, and below the end.
+abbrev pub isWithin : List ℕ → List ℕ → ℕ → ℕ → Bool
+isWithin least end d x = leb (getD least d 0) x && ltb x (getD end d 0)
+
+pub is-within : (least end : List ℕ) (d x : ℕ) → getD least d 0 ≤ x → x < getD end d 0 → isWithin least end d x ≡ true
+is-within least end d x l h = true-and (le-leb (getD least d 0) x l) (lt-ltb x (getD end d 0) h)
+
+pub below-least : (least end : List ℕ) (d x : ℕ) → x < getD least d 0 → isWithin least end d x ≡ false
+below-least least end d x l = rw (lt-leb (getD least d 0) x l)
+
+pub from-end : (least end : List ℕ) (d x : ℕ) → getD end d 0 ≤ x → isWithin least end d x ≡ false
+from-end least end d x h = and-no (leb (getD least d 0) x) (le-ltb x (getD end d 0) h)
+
+-- Number p belongs, and its key on each of the k dimensions lies within the bounds.
+unfoldable pub isAllowed : ℕ → (ℕ → Bool) → (ℕ → ℕ → ℕ) → List ℕ → List ℕ → ℕ → Bool
+isAllowed k belongs key least end p = belongs p && allTo k (λ d. isWithin least end d (key d p))
+
+-- How the test of one number ends: the number does not belong, a key is not within, or every key is.
+module _ (k : ℕ) (belongs : ℕ → Bool) (key : ℕ → ℕ → ℕ) (least end : List ℕ) (p : ℕ) where
+  pub not-belonging : belongs p ≡ false → isAllowed k belongs key least end p ≡ false
+  unfolding isAllowed
+  not-belonging e = rw e
+
+  pub not-within : (d : ℕ) → d < k → isWithin least end d (key d p) ≡ false → isAllowed k belongs key least end p ≡ false
+  unfolding isAllowed
+  not-within d l e = and-no (belongs p) (one-all-false k (λ d. isWithin least end d (key d p)) (d, l, e))
+
+  pub all-within : belongs p ≡ true → ((d : ℕ) → d < k → isWithin least end d (key d p) ≡ true) → isAllowed k belongs key least end p ≡ true
+  unfolding isAllowed
+  all-within e each = true-and e (each-all k (λ d. isWithin least end d (key d p)) each)
+
+module _ (k : ℕ) (belongs : ℕ → Bool) (key : ℕ → ℕ → ℕ) where
+  -- What it says of a number that it is allowed.
+  pub record Allowed (least end : List ℕ) (p : ℕ) : Type 0 where
+    pub belonging : belongs p ≡ true
+    pub from-least : (d : ℕ) → d < k → getD least d 0 ≤ key d p
+    pub below-end : (d : ℕ) → d < k → key d p < getD end d 0
+
+  pub allowed : (least end : List ℕ) (p : ℕ) → isAllowed k belongs key least end p ≡ true → Allowed least end p
+  unfolding isAllowed
+  allowed least end p e =
+      let a = and-true (belongs p) e in
+      let each : (d : ℕ) → d < k → (leb (getD least d 0) (key d p) ≡ true) × (ltb (key d p) (getD end d 0) ≡ true) =
+      λ d l. and-true (leb (getD least d 0) (key d p)) (all-each k (λ d. isWithin least end d (key d p)) (a .1) d l) in
+      record {
+        belonging = a .0;
+        from-least = λ d l. leb-true (getD least d 0) (key d p) (each d l .0);
+        below-end = λ d l. ltb-true (key d p) (getD end d 0) (each d l .1);
+      }
+
+  pub of-allowed : (least end : List ℕ) (p : ℕ) → Allowed least end p → isAllowed k belongs key least end p ≡ true
+  of-allowed least end p w = all-within k belongs key least end p (w .belonging) (λ d l.
+      is-within least end d (key d p) (w .from-least d l) (w .below-end d l))
+
+-- What stands on dimension d once the place s holds x: x there, the old elsewhere.
+abbrev Stored : List ℕ → ℕ → ℕ → ℕ → Type 0
+Stored xs s x d = ((d ≡ s) × (getD (set xs s x) d 0 ≡ x)) ⊎ (getD (set xs s x) d 0 ≡ getD xs d 0)
+
+stored : (xs : List ℕ) (s x d : ℕ) → s < length xs → Stored xs s x d
+stored xs s x d l = go (ℕ-discrete d s)
+  where
+    go : Dec (d ≡ s) → Stored xs s x d
+    go (yes e) = inl (e, rw e (getD-set-same xs s x 0 l))
+    go (no n) = inr (getD-set-other xs s d x 0 n)
+
+-- On numbers that belong, the order of the shelf is the order of the keys.
+abbrev pub Ordered : ℕ → (ℕ → ℕ → ℤ) → (ℕ → Bool) → (ℕ → ℕ → ℕ) → Type 0
+Ordered k at belongs key = (d p q : ℕ) → d < k → belongs p ≡ true → belongs q ≡ true → before at d p q ≡ ltb (key d p) (key d q)
+
+-- A node v that is allowed splits on dimension s: its left branch ends at its key, its right branch starts right after it.
+module _ (k : ℕ) (at : ℕ → ℕ → ℤ) (belongs : ℕ → Bool) (key : ℕ → ℕ → ℕ) (ordered : Ordered k at belongs key) where
+  module _ (least end : List ℕ) (s v : ℕ) (l : s < k) (w : Allowed k belongs key least end v) (p : ℕ) where
+    pub left-allowed : s < length end → Allowed k belongs key least end p → before at s p v ≡ true
+        → Allowed k belongs key least (set end s (key s v)) p
+    left-allowed n a b =
+        record { belonging = a .belonging; from-least = a .from-least; below-end = λ d h. go d h (stored end s (key s v) d n) }
+      where
+        go : (d : ℕ) → d < k → Stored end s (key s v) d → key d p < getD (set end s (key s v)) d 0
+        go d h (inl e) = rw (e .1, e .0) (ltb-true (key s p) (key s v) (sym (ordered s p v l (a .belonging) (w .belonging)) ∙ b))
+        go d h (inr e) = rw e (a .below-end d h)
+
+    pub allowed-left : s < length end → Allowed k belongs key least (set end s (key s v)) p
+        → Allowed k belongs key least end p × (before at s p v ≡ true)
+    allowed-left n a = (
+      record { belonging = a .belonging; from-least = a .from-least; below-end = λ d h. go d h (stored end s (key s v) d n) },
+      ordered s p v l (a .belonging) (w .belonging)
+          ∙ lt-ltb (key s p) (key s v) (omega (arith, a .below-end s l, getD-set-same end s (key s v) 0 n)),
+    )
+      where
+        go : (d : ℕ) → d < k → Stored end s (key s v) d → key d p < getD end d 0
+        go d h (inl e) = omega (arith, a .below-end d h, w .below-end s l, ap (λ (i : ℕ). getD end i 0) (e .0))
+        go d h (inr e) = omega (arith, a .below-end d h)
+
+    pub right-allowed : s < length least → Allowed k belongs key least end p → before at s v p ≡ true
+        → Allowed k belongs key (set least s (key s v + 1)) end p
+    right-allowed n a b =
+        record { belonging = a .belonging; from-least = λ d h. go d h (stored least s (key s v + 1) d n); below-end = a .below-end }
+      where
+        go : (d : ℕ) → d < k → Stored least s (key s v + 1) d → getD (set least s (key s v + 1)) d 0 ≤ key d p
+        go d h (inl e) = omega (
+          arith,
+          ltb-true (key s v) (key s p) (sym (ordered s v p l (w .belonging) (a .belonging)) ∙ b),
+          ap (λ (i : ℕ). key i p) (e .0),
+        )
+        go d h (inr e) = rw e (a .from-least d h)
+
+    pub allowed-right : s < length least → Allowed k belongs key (set least s (key s v + 1)) end p
+        → Allowed k belongs key least end p × (before at s v p ≡ true)
+    allowed-right n a = (
+      record { belonging = a .belonging; from-least = λ d h. go d h (stored least s (key s v + 1) d n); below-end = a .below-end },
+      ordered s v p l (w .belonging) (a .belonging)
+          ∙ lt-ltb (key s v) (key s p) (omega (arith, a .from-least s l, getD-set-same least s (key s v + 1) 0 n)),
+    )
+      where
+        go : (d : ℕ) → d < k → Stored least s (key s v + 1) d → getD least d 0 ≤ key d p
+        go d h (inl e) = omega (arith, a .from-least d h, w .from-least s l, ap (λ (i : ℕ). getD least i 0) (e .0))
+        go d h (inr e) = omega (arith, a .from-least d h)

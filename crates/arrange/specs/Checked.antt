@@ -1,0 +1,72 @@
+-- The checker on the lent points: what its two functions answer, and the answer from the root. The root's bounds leave every key in,
+-- so there it is asked that all numbers belong and that the order is a tree, which is the tree where there are as many slots as numbers.
+use mathlib.Core.Path.{_≡_, sym, ap, _∙_}
+use mathlib.Core.Bool.{Bool, true, _&&_}
+use mathlib.Core.List.{List}
+use Prim.Native.Nat.{ℕ, _≤_, _<_}
+use native.Mathlib.Omega.{arith}
+use lib.ListN.{length, getD, replicate, getD-replicate}
+use lib.IntN.{ℤ}
+use Rattle.terms.specs.Tests.{every}
+use Rattle.terms.specs.Points.{coord, below}
+use Rattle.terms.specs.Tree.{treeRun, isTree}
+use Rattle.theory.specs.Flags.{same-test}
+use Rattle.theory.specs.Counting.{every-at, at-every}
+use Rattle.theory.specs.Tested.{TestedPoints}
+use Rattle.theory.specs.RisingNumbers.{length-rising, members-shelf}
+use Rattle.theory.specs.EachNumberOnce.{below-under}
+use Rattle.theory.specs.TreeIsDistinct.{tree-test}
+use Rattle.arrange.specs.Key.{keyOf, Keyed, key-small, key-number, before-key}
+use Rattle.arrange.specs.Allowed.{isAllowed, allowed, of-allowed, Ordered}
+use Rattle.arrange.specs.Descent.{isBranch}
+
+-- Number p of the m belongs, with its key within the bounds on each dimension.
+abbrev pub numberAllowed : ℕ → ℕ → List ℤ → List ℕ → List ℕ → ℕ → Bool
+numberAllowed k m points least end p = isAllowed k (below m) (keyOf k points) least end p
+
+-- Every number of the run is allowed, and the run is a branch whose node splits on dimension s.
+abbrev pub branchAllowed : ℕ → ℕ → List ℤ → List ℕ → List ℕ → ℕ → List ℕ → Bool
+branchAllowed k m points least end s run = isBranch k (coord k points) (below m) (keyOf k points) least end s run
+
+-- What the descent requires: tested points, a dimension to split on, and two bounds for each dimension.
+pub record Descends (k m : ℕ) (points : List ℤ) (s : ℕ) (least end : List ℕ) : Type 0 where
+  pub tested : TestedPoints k m points
+  pub dimension : s < k
+  pub least-size : k ≤ length least
+  pub end-size : k ≤ length end
+
+module _ {k m : ℕ} {points : List ℤ} (tested : TestedPoints k m points) where
+  -- A number that belongs has a key on each dimension.
+  pub keyed : (d p : ℕ) → d < k → below m p ≡ true → Keyed k points d p
+  keyed d p l e = record { m = m; tested = tested; dimension = l; number = below-under m p e }
+
+  pub ordered : Ordered k (coord k points) (below m) (keyOf k points)
+  ordered d p q l a b = before-key (keyed d p l a) (keyed d q l b)
+
+  -- The last 32-bit number is no key, since its lower half is no number.
+  pub key-below-last : (d p : ℕ) → d < k → below m p ≡ true → keyOf k points d p < 4294967295
+  key-below-last d p l e =
+      let w = keyed d p l e in
+      omega (arith, key-small w, key-number w)
+
+  root-allowed : (p : ℕ) → numberAllowed k m points (replicate 4 0) (replicate 4 4294967295) p ≡ below m p
+  root-allowed p = same-test
+      (λ e. allowed k (below m) (keyOf k points) (replicate 4 0) (replicate 4 4294967295) p e .belonging)
+      (λ e. of-allowed k (below m) (keyOf k points) (replicate 4 0) (replicate 4 4294967295) p (record {
+        belonging = e;
+        from-least = λ d l. omega (arith, getD-replicate {A = ℕ} 4 d 0 0 (omega arith));
+        below-end = λ d l. omega (arith, getD-replicate {A = ℕ} 4 d 4294967295 0 (omega arith), key-below-last d p l e);
+      }))
+
+  -- The descent from the root answers whether the order is the tree of the m numbers.
+  pub root-answer : (order : List ℕ) → length order ≡ m
+      → branchAllowed k m points (replicate 4 0) (replicate 4 4294967295) 0 order ≡ isTree k (coord k points) (below m) m order
+  unfolding isBranch
+  root-answer order size =
+      ap (λ (t : Bool). t && treeRun (length order) k (coord k points) 0 order) all-belong
+      ∙ sym (tree-test k (coord k points) (below m) m order (below-under m) (size ∙ sym (ap length (members-shelf m) ∙ length-rising 0 m)))
+    where
+      all-belong : every (numberAllowed k m points (replicate 4 0) (replicate 4 4294967295)) order ≡ every (below m) order
+      all-belong = same-test
+          (λ e. at-every (below m) 0 order (λ i l. sym (root-allowed (getD order i 0)) ∙ every-at _ 0 order e i l))
+          (λ e. at-every _ 0 order (λ i l. root-allowed (getD order i 0) ∙ every-at (below m) 0 order e i l))

@@ -1,0 +1,11 @@
+pub mod Key
+pub mod Rearranged
+pub mod Parted
+pub mod LeastFirst
+pub mod Chosen
+pub mod WrittenInPlace
+pub mod Placed
+pub mod Arranged
+pub mod Allowed
+pub mod Descent
+pub mod Checked

@@ -1,0 +1,107 @@
+// The checker: whether an order is the tree of its points, by one descent and no memory besides the stack.
+use crate::axis::next_axis;
+use crate::belongs::belongs;
+use crate::key::key;
+ghost use mathlib.Core.Path.{_≡_};
+ghost use Prim.Native.Nat.{_<_};
+ghost use lib.ListN.{length};
+ghost use Rattle.terms.specs.Points.{coord, below};
+ghost use Rattle.terms.specs.Tree.{isTree};
+ghost use Rattle.theory.specs.Tested.{TestedPoints};
+ghost use Rattle.arrange.specs.Checked.{Descends, numberAllowed, branchAllowed};
+
+// Whether number p belongs, and its key on each dimension is at least the least there and below the end.
+// The turns are four at most, a constant, so that a compiler can lay them out one after another.
+fn allowed(k: usize, m: usize, points: &[i32], least: &[u32; 4], end: &[u32; 4], p: u32) -> bool
+    requires { ⌜ TestedPoints k m (now points) ⌝ }
+    ensures { λ r. ⌜ r ≡ numberAllowed k m (now (points .entry)) (now (least .entry)) (now (end .entry)) p ⌝ }
+{
+    if !belongs(m, p) {
+        return false;
+    }
+    let mut d: usize = 0;
+    while d < 4 {
+        if k <= d {
+            return true;
+        }
+        let x = key(points, k, d, p);
+        if x < least[d] {
+            return false;
+        }
+        if end[d] <= x {
+            return false;
+        }
+        d += 1;
+    }
+    true
+}
+
+// Whether the run is a branch whose node splits on dimension s, with every number allowed. A slot alone has no branches to look into.
+fn branch(
+    k: usize,
+    m: usize,
+    points: &[i32],
+    order: &[u32],
+    s: usize,
+    least: &[u32; 4],
+    end: &[u32; 4],
+) -> bool
+    requires { ⌜ Descends k m (now points) s (now least) (now end) ⌝ }
+    ensures { λ r. ⌜ r ≡ branchAllowed k m (now (points .entry)) (now (least .entry)) (now (end .entry)) s (now (order .entry)) ⌝ }
+{
+    let c = order.len();
+    if c == 0 {
+        return true;
+    }
+    if c == 1 {
+        return allowed(k, m, points, least, end, order[0]);
+    }
+    node(k, m, points, order, s, least, end)
+}
+
+// The same of a run that is not empty: its node is allowed, and its branches have its bounds with one replaced: on s the left branch
+// ends at the node's key, the right branch starts after it. Only the row with that bound is copied.
+fn node(
+    k: usize,
+    m: usize,
+    points: &[i32],
+    order: &[u32],
+    s: usize,
+    least: &[u32; 4],
+    end: &[u32; 4],
+) -> bool
+    requires { ⌜ Descends k m (now points) s (now least) (now end) ⌝ }
+    requires { ⌜ 0 < length (now order) ⌝ }
+    ensures { λ r. ⌜ r ≡ branchAllowed k m (now (points .entry)) (now (least .entry)) (now (end .entry)) s (now (order .entry)) ⌝ }
+{
+    let h = order.len() / 2;
+    let p = order[h];
+    if !allowed(k, m, points, least, end, p) {
+        return false;
+    }
+    let x = key(points, k, s, p);
+    let n = next_axis(k, s);
+    let mut left_end = *end;
+    left_end[s] = x;
+    if !branch(k, m, points, &order[0..h], n, least, &left_end) {
+        return false;
+    }
+    let mut right_least = *least;
+    right_least[s] = x + 1;
+    let r = h + 1;
+    branch(k, m, points, &order[r..], n, &right_least, end)
+}
+
+// Whether the order is the tree of the m numbers: the descent from the root, where every key is allowed.
+pub fn check(k: usize, m: usize, points: &[i32], order: &[u32]) -> bool
+    requires { ⌜ TestedPoints k m (now points) ⌝ }
+    requires { ⌜ length (now order) ≡ m ⌝ }
+    ensures { λ r. ⌜ r ≡ isTree k (coord k (now (points .entry))) (below m) m (now (order .entry)) ⌝ }
+{
+    if order.len() == 0 {
+        return true;
+    }
+    let least = [0; 4];
+    let end = [4294967295; 4];
+    node(k, m, points, order, 0, &least, &end)
+}

@@ -1,0 +1,7 @@
+// The shelf's order: keys, the builder that arranges the lent order in place, and the checker of an order.
+pub mod axis;
+pub mod belongs;
+pub mod build;
+pub mod check;
+pub mod choose;
+pub mod key;
