@@ -1,0 +1,95 @@
+-- `corner_of` meets its contract. After d turns those of the first d places that are below k are the corner's.
+use mathlib.Core.Path.{refl}
+use mathlib.Core.Logic.{⊎-elim}
+use Prim.Native.Nat.{_-_}
+use native.Mathlib.Omega.{arith}
+use borrow.Author.Needs.{sfits-of, needs}
+use mir.Facts.{toZ-ofZ}
+use Rattle.whole.specs.Fits.{sfits-mag}
+use Rattle.terms.specs.Points.{lone}
+use Rattle.region.specs.FourDimensions.{FilledTo, filled-none, filled-next, filled-over, filled-all}
+use Rattle.region.specs.Corners.{corner}
+use Rattle.region.proofs.boxes.corner_of.Statement.{statement}
+use Rattle.region.proofs.boxes.corner_of.Tie as tie
+
+abbrev Inv-loop : tie.InvT-loop
+Inv-loop normals at k first second chosen₀ d₀ chosen d = FilledTo k (corner normals at (lone first) (lone second)) d chosen
+
+abbrev μ-loop : tie.MeasureT-loop
+μ-loop normals at k first second chosen₀ d₀ chosen d = 4 - d
+
+loop-holds : tie.Need-loop-holds Inv-loop μ-loop
+loop-holds c = filled-none _ _ _ refl
+
+add-by-sign : tie.Need-add-by-sign Inv-loop μ-loop
+add-by-sign c = omega arith
+
+mul-by-sign : tie.Need-mul-by-sign Inv-loop μ-loop
+mul-by-sign c = omega arith
+
+shared-slice-copy-out-by-sign : tie.Need-shared-slice-copy-out-by-sign Inv-loop μ-loop
+shared-slice-copy-out-by-sign c = omega arith
+
+mul-by-sign-2 : tie.Need-mul-by-sign-2 Inv-loop μ-loop
+mul-by-sign-2 c = omega arith
+
+array-copy-out-by-sign : tie.Need-array-copy-out-by-sign Inv-loop μ-loop
+array-copy-out-by-sign c = omega arith
+
+mul-by-sign-3 : tie.Need-mul-by-sign-3 Inv-loop μ-loop
+mul-by-sign-3 c = omega arith
+
+array-copy-out-by-sign-2 : tie.Need-array-copy-out-by-sign-2 Inv-loop μ-loop
+array-copy-out-by-sign-2 c = omega arith
+
+by-sign-requires : tie.Need-by-sign-requires Inv-loop μ-loop
+by-sign-requires c κs = search needs
+
+mul-chosen : tie.Need-mul-chosen Inv-loop μ-loop
+mul-chosen c = omega arith
+
+array-set-from-chosen : tie.Need-array-set-from-chosen Inv-loop μ-loop
+array-set-from-chosen c = omega arith
+
+add-d : tie.Need-add-d Inv-loop μ-loop
+add-d c = omega arith
+
+loop-less : tie.Need-loop-less Inv-loop μ-loop
+loop-less c = omega arith
+
+loop-again : tie.Need-loop-again Inv-loop μ-loop
+loop-again c =
+    let f = c .before .before .loop .inv in
+    let l = c .before .loop-test .taken in
+    ⊎-elim
+    (λ w.
+    rw (w .5, toZ-ofZ (sfits-of (w .4 .ok)))
+    (filled-next f l _
+    (rw (w .4 .ensures, toZ-ofZ (sfits-mag (w .1 .given)), toZ-ofZ (sfits-mag (w .2 .given)), toZ-ofZ (sfits-mag (w .3 .given))))))
+    (λ w. rw (w .1) (filled-over f l (w .0 .left)))
+    (c .if1 .came)
+
+returns : tie.Need-returns Inv-loop μ-loop
+returns c = record { same = filled-all (c .before .loop .inv) (c .before .before .pre .few) (c .loop-test .left) }
+
+pub corner-of-spec : {M : Type 1} → statement M
+corner-of-spec =
+    tie.close
+    (tie.spec
+    Inv-loop
+    μ-loop
+    loop-holds
+    add-by-sign
+    mul-by-sign
+    shared-slice-copy-out-by-sign
+    mul-by-sign-2
+    array-copy-out-by-sign
+    mul-by-sign-3
+    array-copy-out-by-sign-2
+    by-sign-requires
+    mul-chosen
+    array-set-from-chosen
+    add-d
+    loop-less
+    loop-again
+    returns)

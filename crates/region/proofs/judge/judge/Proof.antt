@@ -1,0 +1,95 @@
+-- `judge` meets its contract. After t turns the first t live faces are judged; the next face ends the loop, is dropped, or is left.
+use mathlib.Core.Path.{refl}
+use mathlib.Core.Logic.{⊎-elim}
+use Prim.Native.Nat.{_-_}
+use native.Mathlib.Omega.{arith}
+use lib.ListN.{getD}
+use borrow.Author.Needs.{needs}
+use Rattle.terms.specs.Box.{boxOf}
+use Rattle.terms.specs.Region.{region}
+use Rattle.theory.specs.Flags.{not-true, not-false}
+use Rattle.region.specs.Ranges.{HasFace}
+use Rattle.region.specs.Judged.{Judging, judging-none, judging-cut, judging-above, judging-left, judging-done}
+use Rattle.region.proofs.judge.judge.Statement.{statement}
+use Rattle.region.proofs.judge.judge.Tie as tie
+
+abbrev Inv-loop : tie.InvT-loop
+Inv-loop k h normals offsets rows live next₀ left₀ count t₀ next left t =
+    Judging (region k h normals offsets) (boxOf rows) (live .face) (live .count) next left t
+
+abbrev μ-loop : tie.MeasureT-loop
+μ-loop k h normals offsets rows live next₀ left₀ count t₀ next left t = live .count - t
+
+loop-holds : tie.Need-loop-holds Inv-loop μ-loop
+loop-holds c = judging-none _ _ _ _ _ refl
+
+element-copy-out-f : tie.Need-element-copy-out-f Inv-loop μ-loop
+element-copy-out-f c = omega arith
+
+cast-i : tie.Need-cast-i Inv-loop μ-loop
+cast-i c = search needs
+
+-- The face at hand is one of the faces.
+face-known : (c : tie.In-loop Inv-loop μ-loop)
+    → HasFace (c .before .before .args .k) (c .before .before .args .h) (c .before .before .args .normals .now) (c .before .before .args .offsets .now)
+    (getD (c .before .before .args .t6 .face) (c .before .loop .t) 0)
+face-known c =
+    let s = c .before .before in
+    record { faces = s .pre .0; known = s .pre .1 .1 .live .each (c .before .loop .t) (c .loop-test .taken) }
+
+wholly-above-requires : tie.Need-wholly-above-requires Inv-loop μ-loop
+wholly-above-requires c κs = (face-known (c .before), c .before .before .before .pre .1 .0)
+
+wholly-below-requires : tie.Need-wholly-below-requires Inv-loop μ-loop
+wholly-below-requires c κs = (face-known (c .before .before .before), c .before .before .before .before .before .pre .1 .0)
+
+returns : tie.Need-returns Inv-loop μ-loop
+returns c =
+    let b = c .before .before .before .before .before in
+    judging-cut (b .before .loop .inv) (b .before .before .pre .1 .1) (b .loop-test .taken) (c .before .wholly-below .ensures) (c .if2 .taken) _ _
+
+array-write-next : tie.Need-array-write-next Inv-loop μ-loop
+array-write-next c = omega arith
+
+add-left : tie.Need-add-left Inv-loop μ-loop
+add-left c = omega arith
+
+add-t : tie.Need-add-t Inv-loop μ-loop
+add-t c = omega arith
+
+loop-less : tie.Need-loop-less Inv-loop μ-loop
+loop-less c = omega arith
+
+loop-again : tie.Need-loop-again Inv-loop μ-loop
+loop-again c =
+    let b = c .before .before .before in
+    let w = b .before .loop .inv in
+    let v = b .before .before .pre .1 .1 in
+    let says = c .before .wholly-above .ensures in
+    let above = c .before .wholly-above .result in
+    ⊎-elim
+    (λ z. rw (z .3, z .4) (judging-left w v (b .loop-test .taken) says (not-true above (z .0 .taken)) (z .1 .ensures) (z .2 .left)))
+    (λ z. rw (z .1, z .2) (judging-above w v (b .loop-test .taken) says (not-false above (z .0 .left))))
+    (c .if1 .came)
+
+returns-2 : tie.Need-returns-2 Inv-loop μ-loop
+returns-2 c = judging-done (c .before .loop .inv) (c .before .before .pre .1 .1) (c .loop-test .left)
+
+pub judge-spec : {M : Type 1} → statement M
+judge-spec =
+    tie.close
+    (tie.spec
+    Inv-loop
+    μ-loop
+    loop-holds
+    element-copy-out-f
+    cast-i
+    wholly-above-requires
+    wholly-below-requires
+    returns
+    array-write-next
+    add-left
+    add-t
+    loop-less
+    loop-again
+    returns-2)

@@ -1,0 +1,87 @@
+-- `inside_live` meets its contract. After t turns the point is above the first t live faces; a point in the box that is above all live faces is inside.
+use mathlib.Core.Path.{_≡_}
+use mathlib.Core.Bool.{true}
+use Prim.Native.Nat.{ℕ, _≤_, _<_, _-_}
+use native.Mathlib.Omega.{arith}
+use lib.ListN.{getD}
+use borrow.Author.Needs.{needs}
+use borrow.Author.Count.{below-more}
+use Rattle.terms.specs.Points.{coord}
+use Rattle.terms.specs.Region.{region, above}
+use Rattle.theory.specs.Flags.{not-true, not-false}
+use Rattle.region.specs.Points.{point-told}
+use Rattle.region.specs.Live.{live-inside, live-outside}
+use Rattle.region.proofs.live.inside_live.Statement.{statement}
+use Rattle.region.proofs.live.inside_live.Tie as tie
+
+abbrev Inv-loop : tie.InvT-loop
+Inv-loop k h points normals offsets p live x count t₀ t =
+    (t ≤ live .count) × ((s : ℕ) → s < t → above (region k h normals offsets) (getD (live .face) s 0) (coord k points p) ≡ true)
+
+abbrev μ-loop : tie.MeasureT-loop
+μ-loop k h points normals offsets p live x count t₀ t = live .count - t
+
+point-at-requires : tie.Need-point-at-requires Inv-loop μ-loop
+point-at-requires c κs = search needs
+
+loop-holds : tie.Need-loop-holds Inv-loop μ-loop
+loop-holds c = (omega arith, λ s l. absurd (omega arith))
+
+element-copy-out-point-above : tie.Need-element-copy-out-point-above Inv-loop μ-loop
+element-copy-out-point-above c = omega arith
+
+cast-point-above : tie.Need-cast-point-above Inv-loop μ-loop
+cast-point-above c = search needs
+
+point-above-requires : tie.Need-point-above-requires Inv-loop μ-loop
+point-above-requires c κs =
+    let s = c .before .before .before .before in (
+      record { faces = s .pre .0; known = s .pre .1 .1 .each (c .before .before .loop .t) (c .before .loop-test .taken) },
+      c .before .before .before .point-at .ensures .ranges,
+    )
+
+returns : tie.Need-returns Inv-loop μ-loop
+returns c =
+    let b = c .before .before .before in
+    let w = b .before .before .point-at .ensures in
+    let a = b .before .before .before .args in
+    let g = region (a .k) (a .h) (a .normals .now) (a .offsets .now) in
+    let i = getD (a .t7 .face) (b .before .loop .t) 0 in
+    let no = not-true (c .before .point-above .result) (c .if1 .taken) in
+    live-outside (b .before .loop .t) (b .loop-test .taken) (point-told g w i (c .before .point-above .ensures) no)
+
+add-t : tie.Need-add-t Inv-loop μ-loop
+add-t c = omega arith
+
+loop-less : tie.Need-loop-less Inv-loop μ-loop
+loop-less c = omega arith
+
+loop-again : tie.Need-loop-again Inv-loop μ-loop
+loop-again c =
+    let b = c .before .before .before in
+    let w = b .before .before .point-at .ensures in
+    let a = b .before .before .before .args in
+    let g = region (a .k) (a .h) (a .normals .now) (a .offsets .now) in
+    let i = getD (a .t7 .face) (b .before .loop .t) 0 in
+    let yes = not-false (c .before .point-above .result) (c .if1 .left) in
+    (omega arith, below-more _ (b .before .loop .t) (b .before .loop .inv .1) (point-told g w i (c .before .point-above .ensures) yes))
+
+returns-2 : tie.Need-returns-2 Inv-loop μ-loop
+returns-2 c = live-inside (λ t l. c .before .loop .inv .1 t (omega arith))
+
+pub inside-live-spec : {M : Type 1} → statement M
+inside-live-spec =
+    tie.close
+    (tie.spec
+    Inv-loop
+    μ-loop
+    point-at-requires
+    loop-holds
+    element-copy-out-point-above
+    cast-point-above
+    point-above-requires
+    returns
+    add-t
+    loop-less
+    loop-again
+    returns-2)

@@ -1,0 +1,42 @@
+-- A point read into a value of four places.
+use mathlib.Core.Path.{_≡_, sym, ap, fun-ext, _∙_}
+use mathlib.Core.Bool.{Bool}
+use mathlib.Core.List.{List}
+use Prim.Native.Nat.{ℕ, suc, _+_, _*_, _≤_, _<_}
+use native.Mathlib.Nat.{mul-le-mul}
+use native.Mathlib.Omega.{arith}
+use lib.ListN.{length, getD}
+use lib.IntN.{ℤ, pos, _*ℤ_}
+use Rattle.whole.specs.IndexedSum.{sum-same}
+use Rattle.terms.specs.Points.{lone, coord}
+use Rattle.terms.specs.Region.{Region, aboveAt, above}
+use Rattle.theory.specs.Tested.{TestedPoints}
+use Rattle.region.specs.Ranges.{Coordinates}
+
+-- The lent points have a point p of k coordinates, in range.
+pub record HasPoint (k : ℕ) (points : List ℤ) (p : ℕ) : Type 0 where
+  pub few : k ≤ 4
+  pub room : p * k + k ≤ length points
+  pub ranges : Coordinates k (coord k points p)
+
+-- Each number of the tested points has its point.
+pub has-point : {k m : ℕ} {points : List ℤ} {p : ℕ} → TestedPoints k m points → p < m → HasPoint k points p
+has-point {k} {m} {points} {p} t l =
+    let more : suc p * k ≤ m * k = mul-le-mul l (omega arith) in
+    let size : length points ≡ k * m = t .size in
+    let room : p * k + k ≤ length points = omega arith in
+    record { few = t .few; room = room; ranges = record { ranges = λ d n. t .ranges (p * k + d) (omega arith) } }
+
+-- A point that is lent alone is point 0.
+pub lone-coord : (k : ℕ) (point : List ℤ) → coord k point 0 ≡ lone point
+lone-coord k point = fun-ext (λ d. ap (λ (place : ℕ). getD point place (pos 0)) (omega arith))
+
+-- The value holds the coordinates of point p.
+pub record PointAt (k : ℕ) (points : List ℤ) (p : ℕ) (x : List ℤ) : Type 0 where
+  pub same : (d : ℕ) → d < k → lone x d ≡ coord k points p d
+  pub ranges : Coordinates k (lone x)
+
+-- What is told of the value is told of the point.
+pub point-told : (g : Region) {points : List ℤ} {p : ℕ} {x : List ℤ} → PointAt (g .k) points p x → (i : ℕ) {answer t : Bool}
+    → answer ≡ above g i (lone x) → answer ≡ t → above g i (coord (g .k) points p) ≡ t
+point-told g w i e q = ap (aboveAt g i) (sum-same (g .k) _ _ (λ d l. ap (λ (z : ℤ). g .component i d *ℤ z) (sym (w .same d l)))) ∙ sym e ∙ q

@@ -1,0 +1,90 @@
+-- What the functions require of coordinates, boxes and faces, and that the products and their sums then fit.
+use mathlib.Core.Path.{_≡_}
+use mathlib.Core.List.{List}
+use Prim.Native.Nat.{ℕ, suc, _+_, _*_, _≤_, _<_}
+use native.Mathlib.Nat.{mul-le-mul}
+use native.Mathlib.Omega.{arith}
+use lib.ListN.{length, getD}
+use lib.IntN.{ℤ, pos, negsuc, natAbs, _*ℤ_}
+use mir.Syntax.{w64}
+use mir.Val.{SFits}
+use Rattle.whole.specs.Parts.{ints, abs-parts}
+use Rattle.whole.specs.Magnitudes.{abs-mul}
+use Rattle.whole.specs.Fits.{fits-abs-le}
+use Rattle.whole.specs.IndexedSum.{sumTo, sum-abs}
+use Rattle.terms.specs.Box.{Box, replaced, leftBox, rightBox}
+use Rattle.theory.specs.BoxLaws.{replaced-by}
+use Rattle.theory.specs.Tested.{Between, TestedFaces}
+
+-- The first k coordinates of a point are in range.
+pub record Coordinates (k : ℕ) (x : ℕ → ℤ) : Type 0 where
+  pub ranges : (d : ℕ) → d < k → Between (negsuc 32767) (x d) (pos 32767)
+
+-- The first k coordinates of both rows of a box are in range.
+pub record BoxRanges (k : ℕ) (b : Box) : Type 0 where
+  pub low : Coordinates k (b .low)
+  pub high : Coordinates k (b .high)
+
+-- A branch's box is in range when its parent's is and the node's coordinate is.
+replaced-ranges : {k : ℕ} {row : ℕ → ℤ} (s : ℕ) {x : ℤ} → Coordinates k row → Between (negsuc 32767) x (pos 32767) → Coordinates k (replaced row s x)
+replaced-ranges {row = row} s {x} r q = record {
+  ranges = λ d l. replaced-by (λ e z. Between (negsuc 32767) z (pos 32767)) row s x d (λ e. q) (λ n. r .ranges d l);
+}
+
+module _ {k : ℕ} {b : Box} (r : BoxRanges k b) (s : ℕ) {x : ℤ} (q : Between (negsuc 32767) x (pos 32767)) where
+  pub left-ranges : BoxRanges k (leftBox b s x)
+  left-ranges = record { low = r .low; high = replaced-ranges s (r .high) q }
+
+  pub right-ranges : BoxRanges k (rightBox b s x)
+  right-ranges = record { low = replaced-ranges s (r .low) q; high = r .high }
+
+-- k components stand from a place on, in range.
+pub record Components (k at : ℕ) (normals : List ℤ) : Type 0 where
+  pub few : k ≤ 4
+  pub room : at + k ≤ length normals
+  pub ranges : (d : ℕ) → d < k → Between (negsuc 32766) (getD normals (at + d) (pos 0)) (pos 32767)
+
+-- Tested faces of at most four dimensions.
+pub record Faces (k h : ℕ) (normals offsets : List ℤ) : Type 0 where
+  pub few : k ≤ 4
+  pub tested : TestedFaces k h normals offsets
+
+-- There is a face i.
+pub record HasFace (k h : ℕ) (normals offsets : List ℤ) (i : ℕ) : Type 0 where
+  pub faces : Faces k h normals offsets
+  pub known : i < h
+
+-- Face i's components start at place i * k.
+pub face-components : {k h : ℕ} {normals offsets : List ℤ} {i : ℕ} → HasFace k h normals offsets i → Components k (i * k) normals
+face-components {k} {h} {normals} {i = i} f =
+    let more : suc i * k ≤ h * k = mul-le-mul (f .known) (omega arith) in
+    let size : length normals ≡ k * h = f .faces .tested .normals-size in
+    let room : i * k + k ≤ length normals = omega arith in
+    record { few = f .faces .few; room = room; ranges = λ d m. f .faces .tested .components (i * k + d) (omega arith) }
+
+-- The product of a component and a coordinate.
+abbrev pub products : List ℤ → ℕ → (ℕ → ℤ) → ℕ → ℤ
+products normals at x d = getD normals (at + d) (pos 0) *ℤ x d
+
+abs-coordinate : (z : ℤ) → Between (negsuc 32767) z (pos 32767) → natAbs z ≤ 32768
+abs-coordinate z r = omega (ints, abs-parts z)
+
+abs-component : (z : ℤ) → Between (negsuc 32766) z (pos 32767) → natAbs z ≤ 32767
+abs-component z r = omega (ints, abs-parts z)
+
+module _ {k at : ℕ} {normals : List ℤ} {x : ℕ → ℤ} (n : Components k at normals) (p : Coordinates k x) where
+  -- A product is at most 32,767 * 32,768.
+  pub abs-product : (d : ℕ) → d < k → natAbs (products normals at x d) ≤ 1073709056
+  abs-product d l = omega (
+    arith,
+    abs-mul (getD normals (at + d) (pos 0)) (x d),
+    mul-le-mul (abs-component _ (n .ranges d l)) (abs-coordinate _ (p .ranges d l)),
+  )
+
+  pub product-fits : (d : ℕ) → d < k → SFits w64 (products normals at x d)
+  product-fits d l = fits-abs-le 1073709056 (abs-product d l) tt
+
+  pub sum-fits : (d : ℕ) → d ≤ k → SFits w64 (sumTo d (products normals at x))
+  sum-fits d l =
+      let few : k ≤ 4 = n .few in
+      fits-abs-le 4294836224 (omega (arith, sum-abs d 1073709056 (products normals at x) (λ e m. abs-product e (omega arith)))) tt

@@ -1,0 +1,6 @@
+// A point and a box against the faces of a region.
+pub mod boxes;
+pub mod faces;
+pub mod judge;
+pub mod live;
+pub mod points;
