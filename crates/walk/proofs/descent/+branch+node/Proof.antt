@@ -1,0 +1,353 @@
+-- The node part and the branch part, which call each other: the measure is twice the run's length, and one more for the branch part.
+-- A branch that is judged settled goes to a copier; an open one to its node, whose two branches' boxes and live faces nest in its own.
+use Prim.Native.Nat.{ℕ, _<_, _+_, _-_, _/_, _%_}
+use native.Mathlib.Omega.{arith}
+use borrow.Author.Needs.{sfits-of}
+use mir.Syntax.{w32}
+use mir.Facts.{toZ-ofZ}
+use Rattle.terms.specs.Points.{coord}
+use Rattle.terms.specs.Box.{boxOf, leftBox, rightBox}
+use Rattle.theory.specs.BoxLaws.{left-nested, right-nested}
+use Rattle.region.specs.Live.{lives-nested}
+use Rattle.region.specs.Judged.{judged-above, judged-open}
+use Rattle.walk.specs.Slots.{lent-length, run-length}
+use Rattle.walk.specs.Walk.{ownOf, ready-own, walked-empty, walked-inside, walked-outside, walked-node, walked-numbers}
+use Rattle.walk.specs.Descent.{own-point, axis-below, axis-small, walkable-left, walkable-right}
+use Rattle.walk.specs.Descent.{Child, child-walkable, child-lives, child-walked}
+use borrow.Fn.Kinds.{In}
+use borrow.Fn.PlainCycle.{Measures, is, falls, and}
+use Rattle.walk.proofs.descent.branch.Reads as branch
+use Rattle.walk.proofs.descent.branch.Kinds as branch-kinds
+use Rattle.walk.proofs.descent.+branch+node.Lts-branch as branch-lts
+use Rattle.walk.proofs.descent.node.Reads as node
+use Rattle.walk.proofs.descent.node.Kinds as node-kinds
+use Rattle.walk.proofs.descent.+branch+node.Lts-node as node-lts
+use Rattle.walk.proofs.descent.left_run.Reads as left-run
+use Rattle.walk.proofs.descent.right_run.Reads as right-run
+use Rattle.region.proofs.judge.judge.Reads as judge
+use Rattle.region.proofs.live.inside_live.Reads as inside-live
+use Rattle.walk.proofs.copiers.copy_inside.Reads as copy-inside
+use Rattle.walk.proofs.copiers.copy_outside.Reads as copy-outside
+use Rattle.walk.proofs.descent.place.Reads as place
+use Rattle.walk.proofs.points.coordinate.Reads as coordinate
+use Rattle.walk.proofs.descent.+branch+node.{statement}
+use Rattle.walk.proofs.descent.+branch+node.Tie.{close}
+
+-- Twice the run's length.
+abbrev μ-node : Measures 5 node-kinds.ps ℕ
+μ-node κs a = a .1 .1 .1 .1 .1 .0 .length + a .1 .1 .1 .1 .1 .0 .length
+
+abbrev μ-branch : Measures 5 branch-kinds.ps ℕ
+μ-branch κs a = a .1 .1 .1 .1 .1 .0 .length + a .1 .1 .1 .1 .1 .0 .length + 1
+
+module _ (t : ℕ) where
+  abbrev branch-at : In 5 branch-kinds.ps
+  branch-at = and 5 branch-kinds.ps (is 5 branch-kinds.ps μ-branch t) branch.Pre
+
+  abbrev branch-below : In 5 branch-kinds.ps
+  branch-below = and 5 branch-kinds.ps (falls 5 branch-kinds.ps _<_ μ-branch t) branch.Pre
+
+  abbrev node-at : In 5 node-kinds.ps
+  node-at = and 5 node-kinds.ps (is 5 node-kinds.ps μ-node t) node.Pre
+
+  abbrev node-below : In 5 node-kinds.ps
+  node-below = and 5 node-kinds.ps (falls 5 node-kinds.ps _<_ μ-node t) node.Pre
+
+  -- What each part's callees ask and tell.
+  abbrev branch-calls : branch-lts.Claims
+  branch-calls = (
+    judge.Asked,
+    judge.Learnt,
+    copy-outside.Asked,
+    copy-outside.Learnt,
+    copy-inside.Asked,
+    copy-inside.Learnt,
+    node-below,
+    node.Post,
+  )
+
+  abbrev node-calls : node-lts.Claims
+  node-calls = (
+    coordinate.Asked,
+    coordinate.Learnt,
+    left-run.Asked,
+    left-run.Learnt,
+    right-run.Asked,
+    right-run.Learnt,
+    branch-below,
+    branch.Post,
+    inside-live.Asked,
+    inside-live.Learnt,
+    place.Asked,
+    place.Learnt,
+  )
+
+  branch-returns : branch-lts.Need-returns branch-calls branch-at branch.Post
+  branch-returns c = rw (c .if1 .taken) (walked-empty _ _ _ _ _ _ _ _ _)
+
+  branch-judge-requires : branch-lts.Need-judge-requires branch-calls branch-at branch.Post
+  branch-judge-requires c κs =
+      let p = c .before .before .before .before .pre .1 in
+      (p .0 .faces, (p .0 .ranges, p .1))
+
+  branch-add-e : branch-lts.Need-add-e branch-calls branch-at branch.Post
+  branch-add-e c = omega arith
+
+  branch-sub-end : branch-lts.Need-sub-end branch-calls branch-at branch.Post
+  branch-sub-end c = omega arith
+
+  branch-mul-copy-outside : branch-lts.Need-mul-copy-outside branch-calls branch-at branch.Post
+  branch-mul-copy-outside c = omega arith
+
+  branch-sub-copy-outside : branch-lts.Need-sub-copy-outside branch-calls branch-at branch.Post
+  branch-sub-copy-outside c = omega arith
+
+  branch-part-copy-outside-start : branch-lts.Need-part-copy-outside-start branch-calls branch-at branch.Post
+  branch-part-copy-outside-start c = omega arith
+
+  branch-part-copy-outside-end : branch-lts.Need-part-copy-outside-end branch-calls branch-at branch.Post
+  branch-part-copy-outside-end c = omega arith
+
+  branch-copy-outside-requires : branch-lts.Need-copy-outside-requires branch-calls branch-at branch.Post
+  branch-copy-outside-requires c κs =
+      let s = c .before .before .before .before .before .before .before .before .before in
+      let r = s .pre .1 .0 .ready in
+      let l = lent-length (s .args .order .now) (s .args .run .start) (s .args .run .length) (r .fits) in
+      omega (arith, r .room, r .size)
+
+  branch-add-settled : branch-lts.Need-add-settled branch-calls branch-at branch.Post
+  branch-add-settled c = omega arith
+
+  branch-returns-2 : branch-lts.Need-returns-2 branch-calls branch-at branch.Post
+  branch-returns-2 c =
+      let j = c .before .before .before .before .before .before .before .before .judge .ensures in
+      let r = c .before .before .before .before .before .before .before .before .before .before .before .before .before .pre .1 .0 .ready in
+      walked-outside r (j .below-one (c .before .before .before .before .before .before .before .if2 .taken)) (c .before .before .before .copy-outside .ensures)
+
+  branch-same-length : branch-lts.Need-same-length branch-calls branch-at branch.Post
+  branch-same-length c = branch-returns-2 c .filled .size
+
+  branch-mul-copy-inside : branch-lts.Need-mul-copy-inside branch-calls branch-at branch.Post
+  branch-mul-copy-inside c = omega arith
+
+  branch-sub-copy-inside : branch-lts.Need-sub-copy-inside branch-calls branch-at branch.Post
+  branch-sub-copy-inside c = omega arith
+
+  branch-part-copy-inside-start : branch-lts.Need-part-copy-inside-start branch-calls branch-at branch.Post
+  branch-part-copy-inside-start c = omega arith
+
+  branch-part-copy-inside-end : branch-lts.Need-part-copy-inside-end branch-calls branch-at branch.Post
+  branch-part-copy-inside-end c = omega arith
+
+  branch-copy-inside-requires : branch-lts.Need-copy-inside-requires branch-calls branch-at branch.Post
+  branch-copy-inside-requires c κs =
+      let s = c .before .before .before .before .before .before .before .before .before .before .before in
+      let r = s .pre .1 .0 .ready in
+      let l = lent-length (s .args .order .now) (s .args .run .start) (s .args .run .length) (r .fits) in
+      omega (arith, r .room, r .size)
+
+  branch-add-settled-2 : branch-lts.Need-add-settled-2 branch-calls branch-at branch.Post
+  branch-add-settled-2 c = omega arith
+
+  branch-returns-3 : branch-lts.Need-returns-3 branch-calls branch-at branch.Post
+  branch-returns-3 c =
+      let j = c .before .before .before .before .before .before .before .before .before .before .judge .ensures in
+      let r = c .before .before .before .before .before .before .before .before .before .before .before .before .before .before .before .pre .1 .0 .ready in
+      let above = judged-above j (c .before .before .before .before .before .before .before .before .before .if2 .left) (c .before .before .before .before .before .before .if3 .taken) in
+      walked-inside r above (c .before .before .before .copy-inside .ensures)
+
+  branch-same-length-2 : branch-lts.Need-same-length-2 branch-calls branch-at branch.Post
+  branch-same-length-2 c = branch-returns-3 c .filled .size
+
+  branch-node-requires : branch-lts.Need-node-requires branch-calls branch-at branch.Post
+  branch-node-requires c κs =
+      let s = c .before .before .before .before .before .before .before .before .before .before in
+      let w = s .pre .1 .0 in
+      let j = c .before .before .before .before .before .judge in
+      let f = c .before .before .before .before .if2 .left in
+      let z = c .before .before .before .before .before .before .before .if1 .left in
+      let n = c .before .if3 .left in
+      let some : 0 < s .args .run .length = omega arith in
+      let left : 0 < j .result .live .count = omega arith in
+      (omega (arith, s .pre .0), ((w, j .ensures .lives f), (some, judged-open (j .ensures) f (ready-own (w .ready) some) left)))
+
+  branch-same-length-3 : branch-lts.Need-same-length-3 branch-calls branch-at branch.Post
+  branch-same-length-3 c = c .before .before .node .ensures .filled .size
+
+  branch-returns-4 : branch-lts.Need-returns-4 branch-calls branch-at branch.Post
+  branch-returns-4 c = c .before .before .node .ensures
+
+  -- The two branches that the node part goes on to.
+  left-is : (c : node-lts.After-left-run node-calls node-at node.Post) →
+      let a = c .before .before .before .before .before .before .before .before .args in
+      let r = a .run in
+      let p = ownOf (a .order .now) (r .start) (r .length) in
+      let child = c .left-run .result in
+      Child (r .start) (r .length / 2) (r .depth) (leftBox (boxOf (r .rows)) (r .depth % a .k) (coord (a .k) (a .points .now) p (r .depth % a .k)))
+      (child .start) (child .length) (child .depth) (boxOf (child .rows))
+  left-is c = rw (toZ-ofZ {w = w32} (sfits-of (c .before .coordinate .ok)), c .before .coordinate .ensures) at (c .left-run .ensures)
+
+  right-is : (c : node-lts.After-right-run node-calls node-at node.Post) →
+      let a = c .before .before .before .before .before .before .before .before .before .args in
+      let r = a .run in
+      let p = ownOf (a .order .now) (r .start) (r .length) in
+      let child = c .right-run .result in
+      Child (r .start + r .length / 2 + 1) (r .length - r .length / 2 - 1) (r .depth)
+      (rightBox (boxOf (r .rows)) (r .depth % a .k) (coord (a .k) (a .points .now) p (r .depth % a .k)))
+      (child .start) (child .length) (child .depth) (boxOf (child .rows))
+  right-is c =
+      rw (toZ-ofZ {w = w32} (sfits-of (c .before .before .coordinate .ok)), c .before .before .coordinate .ensures) at (c .right-run .ensures)
+
+  node-rem-s : node-lts.Need-rem-s node-calls node-at node.Post
+  node-rem-s c = let w = c .before .before .before .pre .1 .0 .0 in omega (arith, w .some)
+
+  node-add-middle : node-lts.Need-add-middle node-calls node-at node.Post
+  node-add-middle c = omega arith
+
+  node-mul-p : node-lts.Need-mul-p node-calls node-at node.Post
+  node-mul-p c = omega arith
+
+  node-shared-slice-read-p : node-lts.Need-shared-slice-read-p node-calls node-at node.Post
+  node-shared-slice-read-p c = omega arith
+
+  node-coordinate-requires : node-lts.Need-coordinate-requires node-calls node-at node.Post
+  node-coordinate-requires c κs =
+      let s = c .before .before .before .before .before .before in
+      let w = s .pre .1 .0 .0 in
+      let some = s .pre .1 .1 .0 in
+      (own-point w some, axis-below w some)
+
+  node-left-run-requires : node-lts.Need-left-run-requires node-calls node-at node.Post
+  node-left-run-requires c κs =
+      let s = c .before .before .before .before .before .before .before in
+      let w = s .pre .1 .0 .0 in
+      let some = s .pre .1 .1 .0 in
+      let r = w .ready in
+      (axis-small w some, omega arith)
+
+  node-right-run-requires : node-lts.Need-right-run-requires node-calls node-at node.Post
+  node-right-run-requires c κs =
+      let s = c .before .before .before .before .before .before .before .before in
+      let w = s .pre .1 .0 .0 in
+      let some = s .pre .1 .1 .0 in
+      let r = w .ready in
+      (axis-small w some, (omega arith, (some, omega arith)))
+
+  node-add-start : node-lts.Need-add-start node-calls node-at node.Post
+  node-add-start c =
+      let s = c .before .before .before .before .before .before .before .before .before .before in
+      let w = s .pre .1 .0 .0 in
+      let some = s .pre .1 .1 .0 in
+      let r = w .ready in
+      omega arith
+
+  node-branch-requires : node-lts.Need-branch-requires node-calls node-at node.Post
+  node-branch-requires c κs =
+      let s = c .before .before .before .before .before .before .before .before .before .before .before in
+      let w = s .pre .1 .0 .0 in
+      let lives = s .pre .1 .0 .1 in
+      let some = s .pre .1 .1 .0 in
+      let l = left-is (c .before .before .before) in
+      let own = ready-own (w .ready) some in (
+        omega (arith, s .pre .0, l .slots),
+        (child-walkable l (walkable-left w some), child-lives l (lives-nested (left-nested own _) lives)),
+      )
+
+  node-cast-inside-live : node-lts.Need-cast-inside-live node-calls node-at node.Post
+  node-cast-inside-live c =
+      let r = c .before .before .before .before .before .before .before .before .before .before .before .before .before .before .args .run in
+      omega (arith, c .before .before .before .before .before .before .before .before .shared-slice-known2 .given (r .start + r .length / 2))
+
+  node-inside-live-requires : node-lts.Need-inside-live-requires node-calls node-at node.Post
+  node-inside-live-requires c κs =
+      let s = c .before .before .before .before .before .before .before .before .before .before .before .before .before .before in
+      let w = s .pre .1 .0 .0 in
+      let lives = s .pre .1 .0 .1 in
+      let some = s .pre .1 .1 .0 in
+      (w .faces, (own-point w some, lives .live))
+
+  node-place-requires : node-lts.Need-place-requires node-calls node-at node.Post
+  node-place-requires c κs =
+      let s = c .before .before .before .before .before .before .before .before .before .before .before .before .before .before .before .before in
+      let w = s .pre .1 .0 .0 in
+      let some = s .pre .1 .1 .0 in
+      let l = left-is (c .before .before .before .before .before .before .before .before) in
+      let v = child-walked l (s .args .order .now) (c .before .before .before .before .branch .ensures) in
+      let half = run-length (s .args .order .now) (s .args .run .start) (s .args .run .length / 2) (omega arith) in
+      omega (arith, walked-numbers v, v .filled .size)
+
+  node-branch-requires-2 : node-lts.Need-branch-requires-2 node-calls node-at node.Post
+  node-branch-requires-2 c κs =
+      let s = c .before .before .before .before .before .before .before .before .before .before .before .before .before .before .before .before .before .before .before .before in
+      let w = s .pre .1 .0 .0 in
+      let lives = s .pre .1 .0 .1 in
+      let some = s .pre .1 .1 .0 in
+      let l = left-is (c .before .before .before .before .before .before .before .before .before .before .before .before) in
+      let v = child-walked l (s .args .order .now) (c .before .before .before .before .before .before .before .before .branch .ensures) in
+      let own = ready-own (w .ready) some in
+      let told = c .before .before .before .before .before .inside-live .ensures .tells lives own in
+      let f = rw (told, v .filled .size, w .ready .size) at (c .before .before .before .place .ensures) in
+      let r = right-is (c .before .before .before .before .before .before .before .before .before .before .before) in (
+        omega (arith, s .pre .0, r .slots),
+        (child-walkable r (walkable-right w some v f), child-lives r (lives-nested (right-nested own _) lives)),
+      )
+
+  node-returns : node-lts.Need-returns node-calls node-at node.Post
+  node-returns c =
+      let s = c .before .before .before .before .before .before .before .before .before .before .before .before .before .before .before .before .before .before .before .before .before .before .before in
+      let w = s .pre .1 .0 .0 in
+      let lives = s .pre .1 .0 .1 in
+      let some = s .pre .1 .1 .0 in
+      let l = left-is (c .before .before .before .before .before .before .before .before .before .before .before .before .before .before .before) in
+      let v = child-walked l (s .args .order .now) (c .before .before .before .before .before .before .before .before .before .before .before .branch .ensures) in
+      let own = ready-own (w .ready) some in
+      let told = c .before .before .before .before .before .before .before .before .inside-live .ensures .tells lives own in
+      let f = rw (told, v .filled .size, w .ready .size) at (c .before .before .before .before .before .before .place .ensures) in
+      let r = right-is (c .before .before .before .before .before .before .before .before .before .before .before .before .before .before) in
+      walked-node (w .ready) some v f (s .pre .1 .1 .1) (child-walked r (s .args .order .now) (c .before .before .branch2 .ensures))
+
+  node-same-length : node-lts.Need-same-length node-calls node-at node.Post
+  node-same-length c = node-returns c .filled .size
+
+pub +branch+node-spec : {M : Type 1} → statement M
++branch+node-spec = close μ-branch μ-node
+    (λ t. branch-lts.spec (branch-calls t) (branch-at t) branch.Post
+    (branch-returns t)
+    (branch-judge-requires t)
+    (branch-add-e t)
+    (branch-sub-end t)
+    (branch-mul-copy-outside t)
+    (branch-sub-copy-outside t)
+    (branch-part-copy-outside-start t)
+    (branch-part-copy-outside-end t)
+    (branch-copy-outside-requires t)
+    (branch-add-settled t)
+    (branch-same-length t)
+    (branch-returns-2 t)
+    (branch-mul-copy-inside t)
+    (branch-sub-copy-inside t)
+    (branch-part-copy-inside-start t)
+    (branch-part-copy-inside-end t)
+    (branch-copy-inside-requires t)
+    (branch-add-settled-2 t)
+    (branch-same-length-2 t)
+    (branch-returns-3 t)
+    (branch-node-requires t)
+    (branch-same-length-3 t)
+    (branch-returns-4 t))
+    λ t. node-lts.spec (node-calls t) (node-at t) node.Post
+    (node-rem-s t)
+    (node-add-middle t)
+    (node-mul-p t)
+    (node-shared-slice-read-p t)
+    (node-coordinate-requires t)
+    (node-left-run-requires t)
+    (node-right-run-requires t)
+    (node-add-start t)
+    (node-branch-requires t)
+    (node-cast-inside-live t)
+    (node-inside-live-requires t)
+    (node-place-requires t)
+    (node-branch-requires-2 t)
+    (node-same-length t)
+    (node-returns t)

@@ -1,0 +1,106 @@
+-- What the node part and the branch part ask of the lent numbers, and that it goes on to both branches of an open branch.
+use mathlib.Core.Path.{_≡_}
+use mathlib.Core.List.{List}
+use Prim.Native.Nat.{ℕ, _+_, _-_, _/_, _%_, _<_}
+use native.Mathlib.Nat.{mod-lt}
+use native.Mathlib.Omega.{arith}
+use lib.ListN.{length}
+use lib.IntN.{ℤ, pos, negsuc}
+use Rattle.terms.specs.Points.{coord}
+use Rattle.terms.specs.Run.{axis}
+use Rattle.terms.specs.Box.{Box, boxOf}
+use Rattle.terms.specs.Region.{Region, region, inside}
+use Rattle.theory.specs.Tested.{Between}
+use Rattle.region.specs.Ranges.{BoxRanges, Faces, left-ranges, right-ranges}
+use Rattle.region.specs.Points.{HasPoint}
+use Rattle.region.specs.Live.{Lives}
+use Rattle.region.specs.declared.live.Live.{Live}
+use Rattle.walk.specs.declared.Tally.{Tally}
+use Rattle.walk.specs.declared.descent.Run.{Run}
+use Rattle.walk.specs.Fill.{Placed}
+use Rattle.walk.specs.Slots.{runOf}
+use Rattle.walk.specs.Root.{Known}
+use Rattle.walk.specs.Walk.{Ready, Walked, ownOf, leftOf, rightOf, ready-left, ready-right}
+
+-- The region of all the lent faces.
+abbrev pub regionOf : ℕ → List ℤ → List ℤ → Region
+regionOf k normals offsets = region k (length offsets) normals offsets
+
+-- A branch of c slots from slot a on, at depth j and in box b, over tested points and faces.
+pub record Walkable (k : ℕ) (points : List ℤ) (order : List ℕ) (normals offsets : List ℤ) (a c j : ℕ) (b : Box) (list : List ℕ) (i o u : ℕ) : Type 0 where
+  pub ready : Ready (regionOf k normals offsets) (coord k points) order a c j b list i o u
+  pub known : Known k points order
+  pub some : 0 < k
+  pub faces : Faces k (length offsets) normals offsets
+  pub ranges : BoxRanges k b
+
+-- A branch one deeper, from slot a on, with c slots and box b.
+pub record Child (a c j : ℕ) (b : Box) (start size depth : ℕ) (box : Box) : Type 0 where
+  pub starts : start ≡ a
+  pub slots : size ≡ c
+  pub deeper : depth ≡ j + 1
+  pub in-box : box ≡ b
+
+module _ {k : ℕ} {points : List ℤ} {order : List ℕ} {normals offsets : List ℤ} {a c j : ℕ} {b : Box} {list : List ℕ} {i o u : ℕ}
+    (w : Walkable k points order normals offsets a c j b list i o u) (some : 0 < c) where
+  -- The node's number is that of a point, and the dimension of its split is one of the k.
+  pub own-point : HasPoint k points (ownOf order a c)
+  own-point = let r = w .ready in w .known .each (a + c / 2) (omega arith)
+
+  pub axis-below : j % k < k
+  axis-below = mod-lt j (w .some)
+
+  pub axis-small : j % k < 4
+  axis-small = omega (arith, axis-below, own-point .few)
+
+  own-ranges : Between (negsuc 32767) (coord k points (ownOf order a c) (axis k j)) (pos 32767)
+  own-ranges = own-point .ranges .ranges (axis k j) axis-below
+
+  -- Both branches can be walked: the left one first, the right one after it and the node's own number.
+  pub walkable-left : Walkable k points order normals offsets a (c / 2) (j + 1) (leftOf (regionOf k normals offsets) (coord k points) j (ownOf order a c) b)
+      list i o (u + 1)
+  walkable-left = record {
+    ready = ready-left (w .ready) some;
+    known = w .known;
+    some = w .some;
+    faces = w .faces;
+    ranges = left-ranges (w .ranges) (axis k j) own-ranges;
+  }
+
+  pub walkable-right : {first next : List ℕ} {i₁ o₁ u₁ i₂ o₂ u₂ : ℕ}
+      → Walked (regionOf k normals offsets) (coord k points) (j + 1) (runOf order a (c / 2)) (leftOf (regionOf k normals offsets) (coord k points) j (ownOf order a c) b)
+      (length order) list first i o (u + 1) i₁ o₁ u₁
+      → Placed (length order) first next (ownOf order a c) (inside (regionOf k normals offsets) (coord k points (ownOf order a c))) i₁ o₁ u₁ i₂ o₂ u₂
+      → Walkable k points order normals offsets (a + c / 2 + 1) (c - c / 2 - 1) (j + 1) (rightOf (regionOf k normals offsets) (coord k points) j (ownOf order a c) b)
+      next i₂ o₂ u₂
+  walkable-right v f = record {
+    ready = ready-right (w .ready) some v f;
+    known = w .known;
+    some = w .some;
+    faces = w .faces;
+    ranges = right-ranges (w .ranges) (axis k j) own-ranges;
+  }
+
+-- What a branch's own numbers ask and tell, said of the value that it is handed on as.
+module _ {a c j : ℕ} {b : Box} {start size depth : ℕ} {box : Box} (child : Child a c j b start size depth box) where
+  pub child-walkable : {k : ℕ} {points : List ℤ} {order : List ℕ} {normals offsets : List ℤ} {list : List ℕ} {i o u : ℕ}
+      → Walkable k points order normals offsets a c (j + 1) b list i o u → Walkable k points order normals offsets start size depth box list i o u
+  child-walkable w = rw (child .starts, child .slots, child .deeper, child .in-box) w
+
+  pub child-lives : {g : Region} {face : List ℕ} {count : ℕ} → Lives g b face count → Lives g box face count
+  child-lives v = rw (child .in-box) v
+
+  pub child-walked : (order : List ℕ) {g : Region} {at : ℕ → ℕ → ℤ} {n : ℕ} {list after : List ℕ} {i o u i' o' u' : ℕ}
+      → Walked g at depth (runOf order start size) box n list after i o u i' o' u' → Walked g at (j + 1) (runOf order a c) b n list after i o u i' o' u'
+  child-walked order w = rw (child .starts, child .slots, child .deeper, child .in-box) at w
+
+-- What both parts ask of the branch and what they do, read off the values that they take and give.
+abbrev pub BranchAsks : ℕ → List ℤ → List ℕ → List ℤ → List ℤ → Run → Live → List ℕ → Tally → Type 0
+BranchAsks k points order normals offsets run live list tally =
+    Walkable k points order normals offsets (run .start) (run .length) (run .depth) (boxOf (run .rows)) list (tally .inside) (tally .outside) (tally .visits)
+    × Lives (regionOf k normals offsets) (boxOf (run .rows)) (live .face) (live .count)
+
+abbrev pub BranchDoes : ℕ → List ℤ → List ℕ → List ℤ → List ℤ → Run → List ℕ → List ℕ → Tally → Tally → Type 0
+BranchDoes k points order normals offsets run list after tally next =
+    Walked (regionOf k normals offsets) (coord k points) (run .depth) (runOf order (run .start) (run .length)) (boxOf (run .rows)) (length order)
+    list after (tally .inside) (tally .outside) (tally .visits) (next .inside) (next .outside) (next .visits)

@@ -1,0 +1,158 @@
+// The descent, as algorithm 4: the part for a branch judges its box, the part for a node visits it, and they call each other on ever shorter runs.
+use crate::Tally;
+use crate::copiers::copy_inside;
+use crate::copiers::copy_outside;
+use crate::points::coordinate;
+use region::boxes::left_box;
+use region::boxes::right_box;
+use region::judge::judge;
+use region::live::Live;
+use region::live::inside_live;
+use terms::CornerRows;
+ghost use mathlib.Core.Path.{_≡_};
+ghost use mathlib.Core.Bool.{true};
+ghost use Prim.Native.Nat.{_+_, _-_, _/_, _^_, _<_};
+ghost use lib.ListN.{length};
+ghost use Rattle.terms.specs.Box.{boxOf, leftBox, rightBox};
+ghost use Rattle.terms.specs.Region.{isOpen};
+ghost use Rattle.walk.specs.Fill.{Placed};
+ghost use Rattle.walk.specs.Descent.{BranchAsks, BranchDoes, Child, regionOf};
+
+// A branch: where its run of slots starts and how long it is, its depth and its box.
+pub struct Run {
+    pub start: usize,
+    pub length: usize,
+    pub depth: usize,
+    pub rows: CornerRows,
+}
+
+// The left branch of a branch whose node has the coordinate x on dimension s.
+fn left_run(run: Run, s: usize, x: i32) -> Run
+    requires { ⌜ s < 4 ⌝ }
+    requires { ⌜ run .depth + 1 < 2 ^ 64 ⌝ }
+    ensures { λ r. ⌜ Child (run .start) (run .length / 2) (run .depth) (leftBox (boxOf (run .rows)) s x)
+        (r .start) (r .length) (r .depth) (boxOf (r .rows)) ⌝ }
+{
+    let rows = run.rows;
+    let left = left_box(rows, s, x);
+    Run {
+        start: run.start,
+        length: run.length / 2,
+        depth: run.depth + 1,
+        rows: left,
+    }
+}
+
+// The right branch.
+fn right_run(run: Run, s: usize, x: i32) -> Run
+    requires { ⌜ s < 4 ⌝ }
+    requires { ⌜ run .depth + 1 < 2 ^ 64 ⌝ }
+    requires { ⌜ 0 < run .length ⌝ }
+    requires { ⌜ run .start + run .length < 2 ^ 64 ⌝ }
+    ensures { λ r. ⌜ Child (run .start + run .length / 2 + 1) (run .length - run .length / 2 - 1) (run .depth) (rightBox (boxOf (run .rows)) s x)
+        (r .start) (r .length) (r .depth) (boxOf (r .rows)) ⌝ }
+{
+    let rows = run.rows;
+    let right = right_box(rows, s, x);
+    let half = run.length / 2;
+    Run {
+        start: run.start + half + 1,
+        length: run.length - half - 1,
+        depth: run.depth + 1,
+        rows: right,
+    }
+}
+
+// The part for a branch: its box is judged against the faces that are live for it. A settled run goes to a list as one part of the order, an
+// open one to the part for its node.
+pub fn branch(
+    k: usize,
+    points: &[i32],
+    order: &[u32],
+    normals: &[i32],
+    offsets: &[i64],
+    run: Run,
+    live: Live,
+    list: &mut [u32],
+    tally: Tally,
+) -> Tally
+    requires { ⌜ BranchAsks k (now points) (now order) (now normals) (now offsets) run live (now list) tally ⌝ }
+    ensures { λ r. ⌜ BranchDoes k (now (points .entry)) (now (order .entry)) (now (normals .entry)) (now (offsets .entry))
+        run (now (list .entry)) (now (list .exit)) tally r ⌝ }
+{
+    let a = run.start;
+    let c = run.length;
+    if c == 0 {
+        return tally;
+    }
+    let h = offsets.len();
+    let rows = run.rows;
+    let judged = judge(k, h, normals, offsets, rows, live);
+    let e = a + c;
+    let mut settled = tally;
+    if judged.below {
+        let end = list.len() - tally.outside;
+        copy_outside(&order[a..e], list, end);
+        settled.outside += c;
+        return settled;
+    }
+    let next = judged.live;
+    if next.count == 0 {
+        copy_inside(&order[a..e], list, tally.inside);
+        settled.inside += c;
+        return settled;
+    }
+    node(k, points, order, normals, offsets, run, next, list, tally)
+}
+
+// The part for the node of an open branch: one visit, the left branch, its own number by its own test, the right branch.
+fn node(
+    k: usize,
+    points: &[i32],
+    order: &[u32],
+    normals: &[i32],
+    offsets: &[i64],
+    run: Run,
+    live: Live,
+    list: &mut [u32],
+    tally: Tally,
+) -> Tally
+    requires { ⌜ BranchAsks k (now points) (now order) (now normals) (now offsets) run live (now list) tally ⌝ }
+    requires { ⌜ 0 < run .length ⌝ }
+    requires { ⌜ isOpen (regionOf k (now normals) (now offsets)) (boxOf (run .rows)) ≡ true ⌝ }
+    ensures { λ r. ⌜ BranchDoes k (now (points .entry)) (now (order .entry)) (now (normals .entry)) (now (offsets .entry))
+        run (now (list .entry)) (now (list .exit)) tally r ⌝ }
+{
+    let s = run.depth % k;
+    let middle = run.start + run.length / 2;
+    let p = order[middle];
+    let x = coordinate(k, points, p, s);
+    let left = left_run(run, s, x);
+    let right = right_run(run, s, x);
+    let mut start = tally;
+    start.visits += 1;
+    let first = branch(k, points, order, normals, offsets, left, live, list, start);
+    let h = offsets.len();
+    let inside = inside_live(k, h, points, normals, offsets, p as usize, live);
+    let own = place(inside, p, list, first);
+    branch(k, points, order, normals, offsets, right, live, list, own)
+}
+
+// Writes one number to the list that its test says.
+fn place(inside: bool, p: u32, list: &mut [u32], tally: Tally) -> Tally
+    requires { ⌜ tally .inside + tally .outside < length (now list) ⌝ }
+    ensures { λ r. ⌜ Placed (length (now (list .entry))) (now (list .entry)) (now (list .exit)) p inside
+        (tally .inside) (tally .outside) (tally .visits) (r .inside) (r .outside) (r .visits) ⌝ }
+{
+    let mut next = tally;
+    if inside {
+        let at = tally.inside;
+        list[at] = p;
+        next.inside += 1;
+        return next;
+    }
+    let at = list.len() - tally.outside - 1;
+    list[at] = p;
+    next.outside += 1;
+    next
+}

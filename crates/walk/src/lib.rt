@@ -1,0 +1,66 @@
+// The walk of a shelf against a region: the stock inside from the front of the list, the stock outside from its back, and the visits.
+mod copiers;
+mod descent;
+mod points;
+mod root;
+
+use descent::Run;
+use descent::branch;
+use region::live::all_faces;
+use root::root_box;
+ghost use mathlib.Core.Path.{_≡_};
+ghost use mathlib.Core.Bool.{true};
+ghost use lib.ListN.{length};
+ghost use Rattle.terms.specs.Points.{coord, below};
+ghost use Rattle.terms.specs.Tree.{isTree};
+ghost use Rattle.terms.specs.Region.{region};
+ghost use Rattle.theory.specs.Tested.{TestedPoints, TestedFaces};
+ghost use Rattle.walk.specs.Shelf.{Listed};
+
+// How many numbers the list holds in front and behind, and how many nodes were visited.
+pub struct Tally {
+    pub inside: usize,
+    pub outside: usize,
+    pub visits: usize,
+}
+
+// Lists the numbers of a shelf of m points that was checked. The list has as many places as the shelf has slots. The root is judged like any branch.
+pub fn walk(
+    k: usize,
+    m: usize,
+    points: &[i32],
+    order: &[u32],
+    normals: &[i32],
+    offsets: &[i64],
+    list: &mut [u32],
+) -> Tally
+    requires { ⌜ TestedPoints k m (now points) ⌝ }
+    requires { ⌜ TestedFaces k (length (now offsets)) (now normals) (now offsets) ⌝ }
+    requires { ⌜ length (now list) ≡ length (now order) ⌝ }
+    requires { ⌜ isTree k (coord k (now points)) (below m) m (now order) ≡ true ⌝ }
+    ensures { λ r. ⌜ Listed
+        (region k (length (now (offsets .entry))) (now (normals .entry)) (now (offsets .entry)))
+        (coord k (now (points .entry)))
+        (now (order .entry))
+        (now (list .exit))
+        (r .inside) (r .outside) (r .visits) ⌝ }
+{
+    let none = Tally {
+        inside: 0,
+        outside: 0,
+        visits: 0,
+    };
+    let slots = order.len();
+    if slots == 0 {
+        return none;
+    }
+    let rows = root_box(k, m, points);
+    let root = Run {
+        start: 0,
+        length: slots,
+        depth: 0,
+        rows: rows,
+    };
+    let live = all_faces(offsets.len());
+    branch(k, points, order, normals, offsets, root, live, list, none)
+}
