@@ -1,0 +1,47 @@
+-- A refusal leaves the order; where all was passed, the first n places come back as the tree and stand before the later ones.
+use mathlib.Core.Path.{sym}
+use lib.ListN.{length}
+use lib.Seq.{length-take-le}
+use borrow.Author.Needs.{needs}
+use Rattle.hornherder.specs.Outcomes.{StockTested, stock-tested, build-refused, build-done}
+use Rattle.hornherder.proofs.hornherder_build.Statement.{statement}
+use Rattle.hornherder.proofs.hornherder_build.Tie as tie
+
+-- What 1 to 5 have tested.
+stock : (c : tie.Else1) → let a = c .before .before .before .args in StockTested (a .k) (a .n) (a .points .now) (length (a .order .now)) (length (a .order .now))
+stock c = stock-tested _ _ _ _ _ (c .before .stock-refusal .ensures) (c .if1 .left)
+
+stock-refusal-requires : tie.Need-stock-refusal-requires
+stock-refusal-requires c κs = search needs
+
+returns : tie.Need-returns
+returns c = build-refused _ _ _ _ (c .before .stock-refusal .ensures) (c .if1 .taken)
+
+slice-relend-prefix-build : tie.Need-slice-relend-prefix-build
+slice-relend-prefix-build c = stock c .order-room
+
+slice-aggregate-build : tie.Need-slice-aggregate-build
+slice-aggregate-build c = sym (length-take-le _ _ (stock (c .before) .order-room))
+
+build-requires : tie.Need-build-requires
+build-requires c κs = let s = stock (c .before) in (s .tested, length-take-le _ _ (s .order-room))
+
+same-length : tie.Need-same-length
+same-length c = search needs
+
+returns-2 : tie.Need-returns-2
+returns-2 c =
+    let e = c .before .before .before .before in
+    build-done _ _ _ _ (e .before .stock-refusal .ensures) (e .if1 .left) _ (c .before .before .build .ensures)
+
+pub hornherder-build-spec : {M : Type 1} → statement M
+hornherder-build-spec =
+    tie.close
+    (tie.spec
+    stock-refusal-requires
+    returns
+    slice-relend-prefix-build
+    slice-aggregate-build
+    build-requires
+    same-length
+    returns-2)

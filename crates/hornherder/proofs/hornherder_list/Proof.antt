@@ -1,0 +1,98 @@
+-- A refusal leaves the list; where all was passed, the walk fills the first n places and counts, and no count is over n.
+use mathlib.Core.Path.{_≡_, sym, _∙_}
+use Prim.Native.Nat.{_-_}
+use native.Mathlib.Omega.{arith}
+use lib.Seq.{length-take-le}
+use borrow.Author.Needs.{needs}
+use Rattle.theory.specs.RefusalsPassed.{ListPassed, list-passed}
+use Rattle.hornherder.specs.Outcomes.{AtMost, counts-at-most, list-coded, list-refused, list-done}
+use Rattle.hornherder.proofs.hornherder_list.Statement.{statement}
+use Rattle.hornherder.proofs.hornherder_list.Tie as tie
+
+-- What 1 to 9 have tested.
+passed : (c : tie.Else1) → let a = c .before .before .before .before .args in
+    ListPassed (a .k) (a .n) (a .h) (a .points .now) (a .order .now) (a .normals .now) (a .offsets .now) (a .list .now)
+passed c = list-passed _ _ _ _ _ _ _ _ (sym (list-coded _ _ _ _ _ _ _ _ (c .before .list-refusal .ensures)) ∙ c .if1 .left)
+
+-- The walk's part of the order is its first n slots.
+whole : (c : tie.Else1) → let n = c .before .before .before .before .args .n in n - 0 ≡ n
+whole c = omega arith
+
+-- No count is over n, which fits.
+few : (c : tie.After-walk) → let t = c .walk .result in AtMost 65535 (t .inside) (t .outside) (t .visits)
+few c =
+    let e = c .before .before .before in
+    let p = passed e in
+    let most = counts-at-most (rw (whole e) at (c .walk .ensures)) in
+    let a = e .before .before .before .before .args in
+    let slots = length-take-le (a .n) (a .order .now) (p .room) in
+    let many = p .tested .many in
+    record { inside = omega arith; outside = omega arith; visited = omega arith }
+
+list-refusal-requires : tie.Need-list-refusal-requires
+list-refusal-requires c κs = search needs
+
+returns : tie.Need-returns
+returns c = list-refused _ _ _ _ _ _ _ _ (c .before .list-refusal .ensures) (c .if1 .taken)
+
+sub-walk : tie.Need-sub-walk
+sub-walk c = search needs
+
+part-walk-start : tie.Need-part-walk-start
+part-walk-start c = search needs
+
+part-walk-end : tie.Need-part-walk-end
+part-walk-end c = passed c .room
+
+slice-relend-prefix-walk : tie.Need-slice-relend-prefix-walk
+slice-relend-prefix-walk c = passed (c .before) .list-room
+
+slice-aggregate-walk : tie.Need-slice-aggregate-walk
+slice-aggregate-walk c = sym (length-take-le _ _ (passed (c .before .before) .list-room))
+
+walk-requires : tie.Need-walk-requires
+walk-requires c κs =
+    let e = c .before .before in
+    let p = passed e in (
+      p .tested,
+      (
+        rw (p .faced .offsets-size) (p .faced),
+        (rw (whole e) (length-take-le _ _ (p .list-room) ∙ sym (length-take-le _ _ (p .room))), rw (whole e) (p .shelf)),
+      ),
+    )
+
+cast-t19 : tie.Need-cast-t19
+cast-t19 c = omega (arith, few (c .before .before .before) .inside)
+
+cast-t20 : tie.Need-cast-t20
+cast-t20 c = omega (arith, few (c .before .before .before .before) .outside)
+
+cast-t21 : tie.Need-cast-t21
+cast-t21 c = omega (arith, few (c .before .before .before .before .before) .visited)
+
+same-length : tie.Need-same-length
+same-length c = search needs
+
+returns-2 : tie.Need-returns-2
+returns-2 c =
+    let w = c .before .before .before .before .before in
+    let e = w .before .before .before in
+    list-done _ _ _ _ _ _ _ _ (e .before .list-refusal .ensures) (e .if1 .left) _ _ _ _ (rw (whole e, passed e .faced .offsets-size) at (w .walk .ensures))
+
+pub hornherder-list-spec : {M : Type 1} → statement M
+hornherder-list-spec =
+    tie.close
+    (tie.spec
+    list-refusal-requires
+    returns
+    sub-walk
+    part-walk-start
+    part-walk-end
+    slice-relend-prefix-walk
+    slice-aggregate-walk
+    walk-requires
+    cast-t19
+    cast-t20
+    cast-t21
+    same-length
+    returns-2)

@@ -1,0 +1,39 @@
+-- A number is the first of a list of refusals: found test by test, as the code goes through them.
+use mathlib.Core.Path.{_≡_, refl, sym, _∙_}
+use mathlib.Core.Logic.{_≢_}
+use mathlib.Core.Bool.{Bool, true, false}
+use mathlib.Core.List.{List, [], _∷_, _++_}
+use Prim.Native.Nat.{ℕ}
+use native.Mathlib.Omega.{arith}
+use Rattle.terms.specs.Refusals.{Refusal, firstOf}
+use Rattle.theory.specs.FirstRefusalIsLowest.{risesFrom, first-lowest}
+use Rattle.theory.specs.RefusalsPassed.{Passed, first-skip, first-stop}
+
+-- The number that the list of refusals gives.
+pub record First (rs : List Refusal) (c : ℕ) : Type 0 where
+  pub is : c ≡ firstOf rs
+
+pub first-none : First [] 0
+unfolding firstOf
+first-none = record { is = refl }
+
+-- The first test holds.
+pub first-holds : {number : ℕ} {holds : Bool} {rs : List Refusal} → holds ≡ true → First (record { number = number; holds = holds } ∷ rs) number
+unfolding firstOf
+first-holds e = record { is = rw e }
+
+-- The first test does not hold, and the others give the number.
+pub first-passes : {number : ℕ} {holds : Bool} {rs : List Refusal} {c : ℕ} → holds ≡ false → First rs c
+    → First (record { number = number; holds = holds } ∷ rs) c
+unfolding firstOf
+first-passes e f = record { is = rw e (f .is) }
+
+-- A first group that gives a refusal gives it for the whole.
+pub first-stops : {xs : List Refusal} {c : ℕ} (ys : List Refusal) → First xs c → c ≢ 0 → First (xs ++ ys) c
+first-stops {xs} ys f n = record { is = f .is ∙ sym (first-stop xs ys (λ z. n (f .is ∙ z))) }
+
+-- A first group that was passed leaves the number to the others. Its numbers rise from 1.
+pub first-goes-on : {xs ys : List Refusal} {c d : ℕ} → risesFrom 1 xs ≡ true → First xs c → c ≡ 0 → First ys d → First (xs ++ ys) d
+first-goes-on {xs} {ys} r f z g =
+    let passed : Passed xs = record { fails = first-lowest 1 xs (omega arith) r .done (sym (f .is) ∙ z) } in
+    record { is = g .is ∙ sym (first-skip xs ys passed) }

@@ -1,0 +1,5 @@
+pub mod Ranges
+pub mod First
+pub mod Stock
+pub mod Outcomes
+pub mod Promises
