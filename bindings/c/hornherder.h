@@ -1,0 +1,186 @@
+/*
+ * Hornherder for C and C++: points of whole numbers on a shelf, arranged as a k-d tree.
+ *
+ *   hornherder_build   arranges points as a shelf
+ *   hornherder_check   says whether an order is that shelf
+ *   hornherder_list    lists the points inside and outside a region, by way of the shelf
+ *   hornherder_place   tests one point against a region
+ *
+ * Points. A point is k whole numbers. The n points are numbered 0 to n - 1 and lent one after the
+ * other: coordinate s of point p is points[p * k + s].
+ *
+ * The shelf. Slot i of the order holds the number of a point. A run of c slots that starts at slot
+ * a has its node at slot a + c / 2; the slots before the node are its left branch, those after it
+ * its right branch. The node at depth j (the root's is 0) splits on coordinate j % k: every point
+ * of the left branch comes before it and every point of the right branch after it, by that
+ * coordinate and, where two are equal, by number. Points and ties leave exactly one such order of
+ * 0 to n - 1.
+ *
+ * The region. It is cut by h faces. Face f has the normal normals[f * k] to normals[f * k + k - 1]
+ * and the offset offsets[f]. A point x is above face f when the sum over s of normals[f * k + s] *
+ * x[s] is at least offsets[f], so a point on a face is above it. A point is inside when it is
+ * above every face, else outside. With no faces every point is inside. A normal of all zeros is
+ * allowed.
+ *
+ * Buffers. Each buffer is lent as a pointer and a length, which counts elements, not bytes. The
+ * pointer may be NULL exactly where the length is 0. It must be aligned for its type, as every
+ * array in C is. The buffers of one call must not overlap. Buffers behind a pointer to const are
+ * not written. An order or a list buffer may be longer than n: its places from n on are neither
+ * read nor written. The calls allocate nothing, and keep nothing once they have returned.
+ *
+ * Refusals. A call that cannot be done returns one of the numbers below. It makes its tests in
+ * rising order of these numbers, all of them before its first write, and returns the lowest that
+ * holds. A refused call changes no lent number, and every other number in its answer is 0. Apart
+ * from the rules on buffers above there is nothing that a caller must see to: any k, n, h, lengths
+ * and lent numbers get the answer promised here.
+ *
+ * Threads. The library has no state. Any number of threads may call at once, as long as nobody
+ * writes a buffer while it is lent, and nobody reads one while it is lent to be written.
+ *
+ * Stack. A call needs less than HORNHERDER_STACK_BYTES of stack, whatever its arguments.
+ *
+ * Machine. The library is compiled for x86-64 Linux, with the calling convention that C compilers
+ * use there. Of the C library it needs at most memcpy, memmove and memset.
+ */
+#ifndef HORNHERDER_H
+#define HORNHERDER_H
+
+#include <stddef.h>
+#include <stdint.h>
+
+#ifdef __cplusplus
+extern "C" {
+#endif
+
+/*
+ * The version of this file and of the archive that it belongs to. It rises when a name, a layout or
+ * the meaning of a number changes.
+ */
+#define HORNHERDER_VERSION 1
+
+/* k, how many coordinates a point has. */
+#define HORNHERDER_MIN_DIMENSION 1
+#define HORNHERDER_MAX_DIMENSION 4
+
+/* n, how many points there are; there may be none. */
+#define HORNHERDER_MAX_POINTS 65535
+
+/* A coordinate. */
+#define HORNHERDER_MIN_COORDINATE (-32768)
+#define HORNHERDER_MAX_COORDINATE 32767
+
+/* h, how many faces a region has; there may be none. */
+#define HORNHERDER_MAX_FACES 32
+
+/* A component of a normal. Its least is one more than that of a coordinate. */
+#define HORNHERDER_MIN_COMPONENT (-32767)
+#define HORNHERDER_MAX_COMPONENT 32767
+
+/* An offset. */
+#define HORNHERDER_MIN_OFFSET (-INT64_C(8589934592))
+#define HORNHERDER_MAX_OFFSET INT64_C(8589934592)
+
+/* The stack that is enough for any call, in bytes. */
+#define HORNHERDER_STACK_BYTES 32768
+
+/* The numbers that calls return. */
+#define HORNHERDER_DONE 0u             /* done */
+#define HORNHERDER_DIMENSION 1u        /* k is not 1 to 4 */
+#define HORNHERDER_TOO_MANY_POINTS 2u  /* n is over 65,535 */
+#define HORNHERDER_POINTS_LENGTH 3u    /* points_len is not k * n; point_len is not k */
+#define HORNHERDER_SHORT_BUFFER 4u     /* order_len or list_len is below n */
+#define HORNHERDER_COORDINATE_RANGE 5u /* a coordinate is not -32,768 to 32,767 */
+#define HORNHERDER_TOO_MANY_FACES 6u   /* h is over 32 */
+#define HORNHERDER_FACES_LENGTH 7u     /* normals_len is not k * h, or offsets_len is not h */
+#define HORNHERDER_FACE_RANGE 8u       /* a component is not -32,767 to 32,767, */
+                                       /* or an offset not -8,589,934,592 to 8,589,934,592 */
+#define HORNHERDER_NOT_THE_TREE 9u     /* the first n slots are not the shelf of these points */
+
+/* What hornherder_list answers. */
+typedef struct {
+    uint32_t code;    /* HORNHERDER_DONE, or the refusal */
+    uint32_t inside;  /* how many points are inside */
+    uint32_t outside; /* how many are outside; where done, inside + outside is n */
+    uint32_t visits;  /* how many slots are open, see hornherder_list */
+} hornherder_listing;
+
+/* What hornherder_place answers. */
+typedef struct {
+    uint32_t code;   /* HORNHERDER_DONE, or the refusal */
+    uint32_t inside; /* 1: the point is inside; 0: it is outside, or the call was refused */
+} hornherder_placing;
+
+/*
+ * Arranges the points: writes their shelf into order[0] to order[n - 1]. What the order held before
+ * does not matter.
+ *
+ *   points   k * n coordinates, each -32,768 to 32,767
+ *   order    at least n places
+ *
+ * Returns HORNHERDER_DONE, or a refusal: 1 to 5.
+ */
+uint32_t hornherder_build(size_t k, size_t n, const int32_t *points, size_t points_len,
+                          uint32_t *order, size_t order_len);
+
+/*
+ * Checks an order: returns HORNHERDER_DONE exactly where order[0] to order[n - 1] are the shelf of
+ * these points.
+ *
+ *   points   k * n coordinates, each -32,768 to 32,767
+ *   order    at least n places, which may hold any numbers
+ *
+ * Returns HORNHERDER_DONE, or a refusal: 1 to 5 and 9.
+ */
+uint32_t hornherder_check(size_t k, size_t n, const int32_t *points, size_t points_len,
+                          const uint32_t *order, size_t order_len);
+
+/*
+ * Lists the points of a shelf that are inside and outside a region.
+ *
+ *   points   k * n coordinates, each -32,768 to 32,767
+ *   order    at least n places; the first n must be the shelf of these points
+ *   normals  k * h components, each -32,767 to 32,767
+ *   offsets  h offsets, each -8,589,934,592 to 8,589,934,592
+ *   list     at least n places, to be written
+ *
+ * Where it is done, list[0] to list[n - 1] hold each number once: those inside from the front, in
+ * shelf order; those outside from place n - 1 backwards, so that the first of them in shelf order
+ * stands at place n - 1. These loops read both in shelf order:
+ *
+ *     for (uint32_t i = 0; i < answer.inside; i++)
+ *         take(list[i]);
+ *     for (uint32_t i = 0; i < answer.outside; i++)
+ *         leave(list[n - 1 - i]);
+ *
+ * The visits say what the answer cost: how many slots are open. A slot is open unless the box of
+ * the branch whose node it holds lies wholly below at least one face, or wholly above all of them.
+ * The box of the root has in each dimension the least and the greatest coordinate of all points. On
+ * the dimension that a node splits on, the box of its left branch has the node's coordinate as the
+ * greatest, that of its right branch as the least; else they are as the box of the node's branch.
+ *
+ * Answers HORNHERDER_DONE with the three counts, or a refusal, 1 to 9, with zeros.
+ */
+hornherder_listing hornherder_list(size_t k, size_t n, size_t h, const int32_t *points,
+                                   size_t points_len, const uint32_t *order, size_t order_len,
+                                   const int32_t *normals, size_t normals_len,
+                                   const int64_t *offsets, size_t offsets_len, uint32_t *list,
+                                   size_t list_len);
+
+/*
+ * Tests one point against a region.
+ *
+ *   point    k coordinates, each -32,768 to 32,767
+ *   normals  k * h components, each -32,767 to 32,767
+ *   offsets  h offsets, each -8,589,934,592 to 8,589,934,592
+ *
+ * Answers HORNHERDER_DONE with inside 1 or 0, or a refusal, 1, 3 or 5 to 8, with 0.
+ */
+hornherder_placing hornherder_place(size_t k, size_t h, const int32_t *point, size_t point_len,
+                                    const int32_t *normals, size_t normals_len,
+                                    const int64_t *offsets, size_t offsets_len);
+
+#ifdef __cplusplus
+}
+#endif
+
+#endif

@@ -1,0 +1,31 @@
+/* Makes every call with NULL and length 0 wherever they can stand, and prints 'right' where all answers are. */
+#include <stdio.h>
+
+#include "hornherder.h"
+
+/* 1 where a listing has this code and zeros. */
+static int is(hornherder_listing answer, uint32_t code)
+{
+    return answer.code == code && answer.inside == 0 && answer.outside == 0 && answer.visits == 0;
+}
+
+int main(void)
+{
+    const int32_t zero[HORNHERDER_MAX_DIMENSION] = {0, 0, 0, 0};
+    size_t k;
+    int right = 1;
+    for (k = HORNHERDER_MIN_DIMENSION; k <= HORNHERDER_MAX_DIMENSION; k++) {
+        hornherder_placing inside = hornherder_place(k, 0, zero, k, NULL, 0, NULL, 0);
+        hornherder_placing none = hornherder_place(k, 0, NULL, 0, NULL, 0, NULL, 0);
+        right &= hornherder_build(k, 0, NULL, 0, NULL, 0) == HORNHERDER_DONE;
+        right &= hornherder_check(k, 0, NULL, 0, NULL, 0) == HORNHERDER_DONE;
+        right &= is(hornherder_list(k, 0, 0, NULL, 0, NULL, 0, NULL, 0, NULL, 0, NULL, 0), HORNHERDER_DONE);
+        right &= inside.code == HORNHERDER_DONE && inside.inside == 1;
+        right &= none.code == HORNHERDER_POINTS_LENGTH && none.inside == 0;
+        right &= hornherder_build(k, 1, zero, k, NULL, 0) == HORNHERDER_SHORT_BUFFER;
+        right &= hornherder_check(k, 1, NULL, 0, NULL, 0) == HORNHERDER_POINTS_LENGTH;
+        right &= is(hornherder_list(k, 0, 1, NULL, 0, NULL, 0, NULL, 0, NULL, 0, NULL, 0), HORNHERDER_FACES_LENGTH);
+    }
+    puts(right ? "right" : "wrong");
+    return 0;
+}

@@ -1,0 +1,145 @@
+/*
+ * The four calls for programs of a machine that is not x86-64, for tests alone: each is passed to serve.c, which makes it
+ * with the library itself under an emulator. The program that runs serve.c is started by the first call.
+ */
+#define _GNU_SOURCE
+#include <fcntl.h>
+#include <pthread.h>
+#include <spawn.h>
+#include <stdio.h>
+#include <stdlib.h>
+#include <string.h>
+#include <unistd.h>
+
+#include "wire.h"
+
+/* A buffer as the caller lent it. */
+typedef struct {
+    const void *bytes;
+    size_t length;
+    int written; /* 1 where the call may write it */
+} lent;
+
+static pthread_mutex_t one_at_a_time = PTHREAD_MUTEX_INITIALIZER;
+static int to_serve = -1, from_serve = -1;
+
+/* Ends the program: an answer that was never given must not look like one. */
+static void stop(const char *reason)
+{
+    fprintf(stderr, "hornherder under the emulator: %s\n", reason);
+    abort();
+}
+
+/* Starts the program that serves. */
+static void start(void)
+{
+    extern char **environ;
+    char *words[] = {(char *)HORNHERDER_SERVE, NULL};
+    int there[2], back[2];
+    pid_t process;
+    posix_spawn_file_actions_t files;
+    if (pipe2(there, O_CLOEXEC) != 0 || pipe2(back, O_CLOEXEC) != 0)
+        stop("no pipe");
+    posix_spawn_file_actions_init(&files);
+    posix_spawn_file_actions_adddup2(&files, there[0], 0);
+    posix_spawn_file_actions_adddup2(&files, back[1], 1);
+    if (posix_spawn(&process, words[0], &files, NULL, words, environ) != 0)
+        stop("cannot start " HORNHERDER_SERVE);
+    posix_spawn_file_actions_destroy(&files);
+    close(there[0]);
+    close(back[1]);
+    to_serve = there[1];
+    from_serve = back[0];
+}
+
+/* Sends so many bytes. */
+static void give(const void *bytes, size_t count)
+{
+    for (size_t done = 0; done < count;) {
+        ssize_t more = write(to_serve, (const char *)bytes + done, count - done);
+        if (more <= 0)
+            stop("it takes no more");
+        done += (size_t)more;
+    }
+}
+
+/* Receives so many bytes. */
+static void take(void *bytes, size_t count)
+{
+    for (size_t done = 0; done < count;) {
+        ssize_t more = read(from_serve, (char *)bytes + done, count - done);
+        if (more <= 0)
+            stop("it ended within a call");
+        done += (size_t)more;
+    }
+}
+
+/* Takes a buffer back: into the caller's where the call may write it; elsewhere it must be as it was. */
+static void take_back(const lent *buffer, size_t size)
+{
+    if (buffer->written) {
+        take((void *)buffer->bytes, size);
+        return;
+    }
+    void *after = malloc(size + 1);
+    if (after == NULL)
+        stop("no memory");
+    take(after, size);
+    if (size != 0 && memcmp(after, buffer->bytes, size) != 0)
+        stop("a call wrote what it was lent to read");
+    free(after);
+}
+
+/* Passes a call on, and its answer and buffers back. */
+static hornherder_listing forward(int call, size_t k, size_t n, size_t h, const lent *buffers)
+{
+    wire_request request = {(uint64_t)call, k, n, h, {0}, {0}};
+    hornherder_listing answer;
+    pthread_mutex_lock(&one_at_a_time);
+    if (to_serve < 0)
+        start();
+    for (int i = 0; i < WIRE_BUFFERS; i++) {
+        if (buffers[i].length > WIRE_ROOM / wire_width(i))
+            stop("a buffer is too large");
+        request.length[i] = buffers[i].length;
+        request.null[i] = buffers[i].bytes == NULL;
+    }
+    give(&request, sizeof request);
+    for (int i = 0; i < WIRE_BUFFERS; i++)
+        give(buffers[i].bytes, buffers[i].length * wire_width(i));
+    take(&answer, sizeof answer);
+    for (int i = 0; i < WIRE_BUFFERS; i++)
+        take_back(&buffers[i], buffers[i].length * wire_width(i));
+    pthread_mutex_unlock(&one_at_a_time);
+    return answer;
+}
+
+uint32_t hornherder_build(size_t k, size_t n, const int32_t *points, size_t points_len, uint32_t *order, size_t order_len)
+{
+    const lent buffers[WIRE_BUFFERS] = {{points, points_len, 0}, {order, order_len, 1}};
+    return forward(WIRE_BUILD, k, n, 0, buffers).code;
+}
+
+uint32_t hornherder_check(size_t k, size_t n, const int32_t *points, size_t points_len, const uint32_t *order, size_t order_len)
+{
+    const lent buffers[WIRE_BUFFERS] = {{points, points_len, 0}, {order, order_len, 0}};
+    return forward(WIRE_CHECK, k, n, 0, buffers).code;
+}
+
+hornherder_listing hornherder_list(size_t k, size_t n, size_t h, const int32_t *points, size_t points_len, const uint32_t *order,
+                                   size_t order_len, const int32_t *normals, size_t normals_len, const int64_t *offsets,
+                                   size_t offsets_len, uint32_t *list, size_t list_len)
+{
+    const lent buffers[WIRE_BUFFERS] = {
+        {points, points_len, 0}, {order, order_len, 0}, {normals, normals_len, 0}, {offsets, offsets_len, 0}, {list, list_len, 1}};
+    return forward(WIRE_LIST, k, n, h, buffers);
+}
+
+hornherder_placing hornherder_place(size_t k, size_t h, const int32_t *point, size_t point_len, const int32_t *normals,
+                                    size_t normals_len, const int64_t *offsets, size_t offsets_len)
+{
+    const lent buffers[WIRE_BUFFERS] = {{point, point_len, 0}, {NULL, 0, 0}, {normals, normals_len, 0}, {offsets, offsets_len, 0}};
+    hornherder_listing answer = forward(WIRE_PLACE, k, 0, h, buffers);
+    hornherder_placing placing = {answer.code, answer.inside};
+    return placing;
+}

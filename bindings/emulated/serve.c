@@ -1,0 +1,124 @@
+/*
+ * The x86-64 side: reads requests from standard input, makes each call of the library, and writes what came of it to
+ * standard output. It ends with its input, and badly where a call does what the header says that none does: each buffer is
+ * lent so that it ends at a page which nobody may touch, and the stack beyond what a call may use is marked.
+ */
+#include "wire.h"
+
+/* What is used of the C library, whose headers for x86-64 may not be on this machine. */
+long read(int file, void *bytes, size_t count);
+long write(int file, const void *bytes, size_t count);
+void *mmap(void *at, size_t size, int may, int how, int file, long from);
+int mprotect(void *at, size_t size, int may);
+void _exit(int status) __attribute__((noreturn));
+
+enum { PAGE = 4096, MAY_READ_AND_WRITE = 3, MAY_NOTHING = 0, PRIVATE_AND_EMPTY = 0x22 };
+enum { MARKS = 4096, MARK = 0x5AE1F };
+
+/* Just behind the last byte of each buffer. */
+static unsigned char *ends[WIRE_BUFFERS];
+
+/* The marks on the stack, beyond what a call may use. */
+static volatile uint32_t *marks;
+
+/* Reads so many bytes, or ends: well where the input is over before the first, badly where it breaks off. */
+static void take(void *bytes, size_t count, int may_end)
+{
+    size_t done = 0;
+    while (done < count) {
+        long more = read(0, (unsigned char *)bytes + done, count - done);
+        if (more <= 0)
+            _exit(may_end && more == 0 && done == 0 ? 0 : 1);
+        done += (size_t)more;
+    }
+}
+
+/* Writes so many bytes, or ends badly. */
+static void give(const void *bytes, size_t count)
+{
+    size_t done = 0;
+    while (done < count) {
+        long more = write(1, (const unsigned char *)bytes + done, count - done);
+        if (more <= 0)
+            _exit(1);
+        done += (size_t)more;
+    }
+}
+
+/* Makes room for each buffer, with a page behind it that nobody may touch. */
+static void make_room(void)
+{
+    for (int i = 0; i < WIRE_BUFFERS; i++) {
+        unsigned char *room = (unsigned char *)mmap(NULL, WIRE_ROOM + PAGE, MAY_READ_AND_WRITE, PRIVATE_AND_EMPTY, -1, 0);
+        if (room == (void *)-1 || mprotect(room + WIRE_ROOM, PAGE, MAY_NOTHING) != 0)
+            _exit(1);
+        ends[i] = room + WIRE_ROOM;
+    }
+}
+
+/* Marks the stack just beyond what a call may use. Its frame lies where a call's frames will, and is gone by then. */
+static void __attribute__((noinline)) mark_stack(void)
+{
+    volatile uint32_t frame[MARKS + HORNHERDER_STACK_BYTES / sizeof(uint32_t)];
+    for (int i = 0; i < MARKS; i++)
+        frame[i] = MARK;
+    marks = frame;
+}
+
+/* Ends badly where a mark is gone. */
+static void look_at_stack(void)
+{
+    for (int i = 0; i < MARKS; i++)
+        if (marks[i] != MARK)
+            _exit(1);
+}
+
+/* Makes the call of a request with these buffers. */
+static hornherder_listing call(const wire_request *r, void **b)
+{
+    const int32_t *points = (const int32_t *)b[WIRE_POINTS], *normals = (const int32_t *)b[WIRE_NORMALS];
+    const int64_t *offsets = (const int64_t *)b[WIRE_OFFSETS];
+    uint32_t *order = (uint32_t *)b[WIRE_ORDER], *list = (uint32_t *)b[WIRE_LIST_BUFFER];
+    const uint64_t *length = r->length;
+    hornherder_listing answer = {0, 0, 0, 0};
+    hornherder_placing placing;
+    switch (r->call) {
+    case WIRE_BUILD:
+        answer.code = hornherder_build(r->k, r->n, points, length[WIRE_POINTS], order, length[WIRE_ORDER]);
+        return answer;
+    case WIRE_CHECK:
+        answer.code = hornherder_check(r->k, r->n, points, length[WIRE_POINTS], order, length[WIRE_ORDER]);
+        return answer;
+    case WIRE_LIST:
+        return hornherder_list(r->k, r->n, r->h, points, length[WIRE_POINTS], order, length[WIRE_ORDER], normals,
+                               length[WIRE_NORMALS], offsets, length[WIRE_OFFSETS], list, length[WIRE_LIST_BUFFER]);
+    case WIRE_PLACE:
+        placing = hornherder_place(r->k, r->h, points, length[WIRE_POINTS], normals, length[WIRE_NORMALS], offsets,
+                                   length[WIRE_OFFSETS]);
+        answer.code = placing.code;
+        answer.inside = placing.inside;
+        return answer;
+    }
+    _exit(1);
+}
+
+int main(void)
+{
+    make_room();
+    mark_stack();
+    for (;;) {
+        wire_request request;
+        void *buffers[WIRE_BUFFERS];
+        take(&request, sizeof request, 1);
+        for (int i = 0; i < WIRE_BUFFERS; i++) {
+            size_t size = request.length[i] * wire_width(i);
+            buffers[i] = request.null[i] ? NULL : ends[i] - size;
+            take(buffers[i], size, 0);
+        }
+        hornherder_listing answer = call(&request, buffers);
+        look_at_stack();
+        give(&answer, sizeof answer);
+        for (int i = 0; i < WIRE_BUFFERS; i++)
+            give(buffers[i], request.length[i] * wire_width(i));
+    }
+}

@@ -1,0 +1,31 @@
+/*
+ * What goes over the pipes between forward.c and serve.c: a request, the bytes of each buffer in turn; back comes
+ * an answer and the bytes of each buffer as the call left them.
+ */
+#ifndef WIRE_H
+#define WIRE_H
+
+#include "../c/hornherder.h"
+
+/* The calls. */
+enum { WIRE_BUILD, WIRE_CHECK, WIRE_LIST, WIRE_PLACE };
+
+/* The buffers. A call that has no such buffer lends it as NULL and 0; hornherder_place has its point in the first. */
+enum { WIRE_POINTS, WIRE_ORDER, WIRE_NORMALS, WIRE_OFFSETS, WIRE_LIST_BUFFER, WIRE_BUFFERS };
+
+/* The most bytes that a buffer may have here: enough for all that the library accepts and some more. */
+#define WIRE_ROOM ((size_t)4 << 20)
+
+typedef struct {
+    uint64_t call, k, n, h;
+    uint64_t length[WIRE_BUFFERS]; /* elements */
+    uint64_t null[WIRE_BUFFERS];   /* 1 where the pointer was NULL */
+} wire_request;
+
+/* The bytes of one element of a buffer. */
+static inline size_t wire_width(int buffer)
+{
+    return buffer == WIRE_OFFSETS ? sizeof(int64_t) : sizeof(int32_t);
+}
+
+#endif

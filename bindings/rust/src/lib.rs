@@ -1,0 +1,64 @@
+//! Points of whole numbers on a shelf, arranged as a k-d tree, and which of them are inside a region.
+//!
+//! The work is done by the archive `libhornherder.a`, whose every call is proved to give exactly the
+//! answer that its definitions say. This crate has two layers:
+//!
+//! - [`Shelf`], [`Region`] and [`Listing`], which derive the numbers of points and of faces and give each
+//!   refusal as a [`Refusal`];
+//! - [`raw`], the calls themselves with every number and slice as given.
+//!
+//! ```
+//! use hornherder::{Region, Shelf};
+//!
+//! // Six points of two coordinates each.
+//! let shelf = Shelf::build(2, vec![1, 5, 4, 2, 4, 8, 7, 1, 6, 6, 2, 2])?;
+//! assert_eq!(shelf.order(), [1, 5, 0, 2, 3, 4]);
+//!
+//! // The region x + y >= 7 and -x >= -6.
+//! let region = Region::everywhere(2)?
+//!     .with_face(&[1, 1], 7)?
+//!     .with_face(&[-1, 0], -6)?;
+//!
+//! let mut buffer = vec![0; shelf.len()];
+//! let listing = shelf.list(&region, &mut buffer)?;
+//! assert_eq!(listing.inside(), [2, 4]);
+//! assert!(listing.outside().eq([1, 5, 0, 3]));
+//! assert_eq!(listing.visits(), 5);
+//! # Ok::<(), hornherder::Refusal>(())
+//! ```
+//!
+//! The library keeps no state, so any number of threads may call at once. A call needs less than
+//! [`raw::STACK_BYTES`] of stack.
+
+#![warn(missing_docs)]
+
+mod listing;
+pub mod raw;
+mod refusal;
+mod region;
+mod shelf;
+
+pub use listing::{Listing, Outside};
+pub use refusal::Refusal;
+pub use region::Region;
+pub use shelf::Shelf;
+
+/// The example of the README, run with the others.
+#[cfg(doctest)]
+#[doc = include_str!("../README.md")]
+struct Readme;
+
+/// The most coordinates that a point can have; the fewest are 1.
+pub const MAX_DIMENSION: usize = 4;
+/// The most points on a shelf.
+pub const MAX_POINTS: usize = 65_535;
+/// The least coordinate.
+pub const MIN_COORDINATE: i32 = -32_768;
+/// The greatest coordinate.
+pub const MAX_COORDINATE: i32 = 32_767;
+/// The most faces of a region.
+pub const MAX_FACES: usize = 32;
+/// The greatest component of a normal; the least is its negative.
+pub const MAX_COMPONENT: i32 = 32_767;
+/// The greatest offset of a face; the least is its negative.
+pub const MAX_OFFSET: i64 = 8_589_934_592;

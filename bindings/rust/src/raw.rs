@@ -1,0 +1,181 @@
+//! The thin layer: the calls of the library with k, n, h and the slices as given.
+//!
+//! Nothing is derived and nothing is tested here, so every refusal can be met. The numbers that calls
+//! return are those of [`Refusal::number`](crate::Refusal::number), and 0 for done. A refused call changes
+//! no lent number, and every other number in its answer is 0.
+//!
+//! ```
+//! use hornherder::raw;
+//!
+//! let points = [0, 10];
+//! let mut order = [7, 7, 7];
+//! assert_eq!(raw::build(1, 2, &points, &mut order), 0);
+//! assert_eq!(order, [0, 1, 7]); // places from n on are left alone
+//! assert_eq!(raw::check(1, 2, &points, &[1, 0]), 9);
+//!
+//! let mut list = [0; 2];
+//! let answer = raw::list(1, 2, 1, &points, &order, &[1], &[5], &mut list);
+//! assert_eq!((answer.inside, answer.outside, answer.visits), (1, 1, 2));
+//! assert_eq!(raw::place(5, 0, &[], &[], &[]).code, 1);
+//! ```
+
+/// The version of the calls and of the archive: the header's `HORNHERDER_VERSION`.
+pub const VERSION: u32 = 1;
+
+/// The stack that is enough for any call, in bytes.
+pub const STACK_BYTES: usize = 32_768;
+
+/// What [`list`] answers.
+#[repr(C)]
+#[derive(Clone, Copy, Debug, Default, PartialEq, Eq)]
+pub struct Listing {
+    /// 0 for done, or the number of the refusal.
+    pub code: u32,
+    /// How many points are inside.
+    pub inside: u32,
+    /// How many points are outside.
+    pub outside: u32,
+    /// How many slots are open.
+    pub visits: u32,
+}
+
+/// What [`place`] answers.
+#[repr(C)]
+#[derive(Clone, Copy, Debug, Default, PartialEq, Eq)]
+pub struct Placing {
+    /// 0 for done, or the number of the refusal.
+    pub code: u32,
+    /// 1 where the point is inside, else 0.
+    pub inside: u32,
+}
+
+extern "C" {
+    fn hornherder_build(
+        k: usize,
+        n: usize,
+        points: *const i32,
+        points_len: usize,
+        order: *mut u32,
+        order_len: usize,
+    ) -> u32;
+
+    fn hornherder_check(
+        k: usize,
+        n: usize,
+        points: *const i32,
+        points_len: usize,
+        order: *const u32,
+        order_len: usize,
+    ) -> u32;
+
+    fn hornherder_list(
+        k: usize,
+        n: usize,
+        h: usize,
+        points: *const i32,
+        points_len: usize,
+        order: *const u32,
+        order_len: usize,
+        normals: *const i32,
+        normals_len: usize,
+        offsets: *const i64,
+        offsets_len: usize,
+        list: *mut u32,
+        list_len: usize,
+    ) -> Listing;
+
+    fn hornherder_place(
+        k: usize,
+        h: usize,
+        point: *const i32,
+        point_len: usize,
+        normals: *const i32,
+        normals_len: usize,
+        offsets: *const i64,
+        offsets_len: usize,
+    ) -> Placing;
+}
+
+// In every call below the pointers and lengths are those of live slices, and a slice that is written is
+// borrowed alone. The library asks for nothing more; where a length is 0 it takes any pointer.
+
+/// Writes the shelf of the points into the first `n` places of `order`. Refusals: 1 to 5.
+pub fn build(k: usize, n: usize, points: &[i32], order: &mut [u32]) -> u32 {
+    // SAFETY: as said above.
+    unsafe {
+        hornherder_build(
+            k,
+            n,
+            points.as_ptr(),
+            points.len(),
+            order.as_mut_ptr(),
+            order.len(),
+        )
+    }
+}
+
+/// Says 0 exactly where the first `n` places of `order` are the shelf of the points. Refusals: 1 to 5
+/// and 9.
+pub fn check(k: usize, n: usize, points: &[i32], order: &[u32]) -> u32 {
+    // SAFETY: as said above.
+    unsafe {
+        hornherder_check(
+            k,
+            n,
+            points.as_ptr(),
+            points.len(),
+            order.as_ptr(),
+            order.len(),
+        )
+    }
+}
+
+/// Writes the numbers inside from the front of `list`, and those outside from place `n - 1` backwards,
+/// both in shelf order. Refusals: 1 to 9.
+#[allow(clippy::too_many_arguments)]
+pub fn list(
+    k: usize,
+    n: usize,
+    h: usize,
+    points: &[i32],
+    order: &[u32],
+    normals: &[i32],
+    offsets: &[i64],
+    list: &mut [u32],
+) -> Listing {
+    // SAFETY: as said above.
+    unsafe {
+        hornherder_list(
+            k,
+            n,
+            h,
+            points.as_ptr(),
+            points.len(),
+            order.as_ptr(),
+            order.len(),
+            normals.as_ptr(),
+            normals.len(),
+            offsets.as_ptr(),
+            offsets.len(),
+            list.as_mut_ptr(),
+            list.len(),
+        )
+    }
+}
+
+/// Tests one point against a region. Refusals: 1, 3 and 5 to 8.
+pub fn place(k: usize, h: usize, point: &[i32], normals: &[i32], offsets: &[i64]) -> Placing {
+    // SAFETY: as said above.
+    unsafe {
+        hornherder_place(
+            k,
+            h,
+            point.as_ptr(),
+            point.len(),
+            normals.as_ptr(),
+            normals.len(),
+            offsets.as_ptr(),
+            offsets.len(),
+        )
+    }
+}

@@ -1,0 +1,135 @@
+//! A shelf: points and the one order that arranges them.
+
+use crate::listing::Listing;
+use crate::raw;
+use crate::refusal::{done, Refusal};
+use crate::region::Region;
+use std::borrow::Cow;
+
+/// Points arranged as a k-d tree. Whatever its history, its order is the tree of its points.
+///
+/// Points and order may be owned or borrowed: give a `Vec` or a slice.
+#[derive(Clone, Debug, PartialEq, Eq)]
+pub struct Shelf<'s> {
+    k: usize,
+    points: Cow<'s, [i32]>,
+    order: Cow<'s, [u32]>,
+}
+
+impl<'s> Shelf<'s> {
+    /// Arranges these points, `k` coordinates each, point 0 first.
+    ///
+    /// ```
+    /// use hornherder::Shelf;
+    ///
+    /// let points = [3, 3, 3];
+    /// let shelf = Shelf::build(1, &points[..])?;
+    /// assert_eq!(shelf.order(), [0, 1, 2]); // ties go by number
+    /// # Ok::<(), hornherder::Refusal>(())
+    /// ```
+    pub fn build(k: usize, points: impl Into<Cow<'s, [i32]>>) -> Result<Shelf<'s>, Refusal> {
+        let points = points.into();
+        let n = numbered(k, &points);
+        let mut order = vec![0; n];
+        done(raw::build(k, n, &points, &mut order))?;
+        let order = order.into();
+        Ok(Shelf { k, points, order })
+    }
+
+    /// Takes points with an order that was built before, and checks it. Places of the order behind the
+    /// last point do not matter.
+    ///
+    /// ```
+    /// use hornherder::{Refusal, Shelf};
+    ///
+    /// let points = vec![0, 10];
+    /// assert!(Shelf::with_order(1, &points, vec![0, 1]).is_ok());
+    /// let wrong = Shelf::with_order(1, &points, vec![1, 0]);
+    /// assert_eq!(wrong, Err(Refusal::NotTheTree));
+    /// ```
+    pub fn with_order(
+        k: usize,
+        points: impl Into<Cow<'s, [i32]>>,
+        order: impl Into<Cow<'s, [u32]>>,
+    ) -> Result<Shelf<'s>, Refusal> {
+        let (points, order) = (points.into(), order.into());
+        let n = numbered(k, &points);
+        done(raw::check(k, n, &points, &order))?;
+        let order = match order {
+            Cow::Borrowed(slots) => Cow::Borrowed(&slots[..n]),
+            Cow::Owned(mut slots) => {
+                slots.truncate(n);
+                Cow::Owned(slots)
+            }
+        };
+        Ok(Shelf { k, points, order })
+    }
+
+    /// The dimension: how many coordinates a point has.
+    pub fn k(&self) -> usize {
+        self.k
+    }
+
+    /// How many points there are.
+    pub fn len(&self) -> usize {
+        self.order.len()
+    }
+
+    /// Whether there are no points.
+    pub fn is_empty(&self) -> bool {
+        self.order.is_empty()
+    }
+
+    /// All coordinates, point 0 first.
+    pub fn points(&self) -> &[i32] {
+        &self.points
+    }
+
+    /// The coordinates of the point with this number, if there is one.
+    pub fn point(&self, number: u32) -> Option<&[i32]> {
+        self.points.chunks_exact(self.k).nth(number as usize)
+    }
+
+    /// The number in each slot.
+    pub fn order(&self) -> &[u32] {
+        &self.order
+    }
+
+    /// Lists the points inside and outside a region into a buffer of at least [`len`](Shelf::len) places.
+    /// The buffer can be used again once the listing is no longer needed; places behind the last point
+    /// are left alone.
+    ///
+    /// ```
+    /// use hornherder::{Region, Shelf};
+    ///
+    /// let shelf = Shelf::build(1, vec![30, 10, 20])?;
+    /// let mut buffer = vec![0; shelf.len()];
+    /// for (least, inside) in [(10, vec![1, 2, 0]), (20, vec![2, 0]), (31, vec![])] {
+    ///     let region = Region::everywhere(1)?.with_face(&[1], least)?;
+    ///     assert_eq!(shelf.list(&region, &mut buffer)?.inside(), inside);
+    /// }
+    /// # Ok::<(), hornherder::Refusal>(())
+    /// ```
+    ///
+    /// Refused are a buffer with too few places, and faces made for another dimension.
+    pub fn list<'l>(&self, region: &Region, buffer: &'l mut [u32]) -> Result<Listing<'l>, Refusal> {
+        let answer = raw::list(
+            self.k,
+            self.len(),
+            region.h(),
+            &self.points,
+            &self.order,
+            region.normals(),
+            region.offsets(),
+            buffer,
+        );
+        done(answer.code)?;
+        let (inside, outside) = buffer[..self.len()].split_at(answer.inside as usize);
+        Ok(Listing::new(inside, outside, answer.visits))
+    }
+}
+
+/// How many points these coordinates make. Where they do not come out even, or k is 0, the library refuses.
+fn numbered(k: usize, points: &[i32]) -> usize {
+    points.len().checked_div(k).unwrap_or(0)
+}

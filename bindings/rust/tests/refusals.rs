@@ -1,0 +1,90 @@
+//! Every refusal, met through the types that people use.
+
+use hornherder::{Refusal, Region, Shelf, MAX_OFFSET, MAX_POINTS};
+use std::error::Error;
+
+/// A region of so many faces, all of which hold every point of one coordinate.
+fn faces(h: usize) -> Result<Region, Refusal> {
+    Region::new(1, vec![0; h], vec![0; h])
+}
+
+/// Building a shelf meets 1, 2, 3 and 5.
+#[test]
+fn of_build() {
+    let refused = |k, points: &[i32]| Shelf::build(k, points).map(|_| ()).unwrap_err();
+    assert_eq!(refused(0, &[]), Refusal::Dimension);
+    assert_eq!(refused(5, &[0; 5]), Refusal::Dimension);
+    assert_eq!(refused(1, &vec![0; MAX_POINTS + 1]), Refusal::TooManyPoints);
+    assert_eq!(refused(4, &[0; 7]), Refusal::PointsLength);
+    assert_eq!(refused(1, &[32_768]), Refusal::CoordinateRange);
+    assert!(Shelf::build(1, vec![0; MAX_POINTS]).is_ok());
+}
+
+/// Taking an order meets 4 and 9 as well.
+#[test]
+fn of_order() {
+    let refused = |points: &[i32], order: &[u32]| {
+        let shelf = Shelf::with_order(1, points, order);
+        shelf.map(|_| ()).unwrap_err()
+    };
+    assert_eq!(refused(&[3, 3], &[0]), Refusal::ShortBuffer);
+    assert_eq!(refused(&[3, -32_769], &[0, 1]), Refusal::CoordinateRange);
+    assert_eq!(refused(&[3, 3], &[1, 0]), Refusal::NotTheTree);
+    assert_eq!(refused(&[3, 3], &[0, 0]), Refusal::NotTheTree);
+    assert_eq!(refused(&[3, 3], &[0, 2]), Refusal::NotTheTree);
+}
+
+/// Making a region meets 1, 6, 7 and 8.
+#[test]
+fn of_region() {
+    assert_eq!(Region::everywhere(0), Err(Refusal::Dimension));
+    assert_eq!(Region::everywhere(5), Err(Refusal::Dimension));
+    assert_eq!(Region::everywhere(usize::MAX), Err(Refusal::Dimension));
+    assert_eq!(faces(33), Err(Refusal::TooManyFaces));
+    let full = faces(32).unwrap();
+    assert_eq!(full.with_face(&[0], 0), Err(Refusal::TooManyFaces));
+    let flat = Region::everywhere(2).unwrap();
+    assert_eq!(flat.clone().with_face(&[1], 0), Err(Refusal::FacesLength));
+    let component = flat.clone().with_face(&[0, -32_768], 0);
+    assert_eq!(component, Err(Refusal::FaceRange));
+    let offset = flat.clone().with_face(&[0, -32_767], -MAX_OFFSET - 1);
+    assert_eq!(offset, Err(Refusal::FaceRange));
+    assert!(flat.with_face(&[0, -32_767], -MAX_OFFSET).is_ok());
+}
+
+/// Testing a point meets 3 and 5.
+#[test]
+fn of_one_point() {
+    let region = faces(1).unwrap();
+    assert_eq!(region.contains(&[]), Err(Refusal::PointsLength));
+    assert_eq!(region.contains(&[1, 2]), Err(Refusal::PointsLength));
+    assert_eq!(region.contains(&[32_768]), Err(Refusal::CoordinateRange));
+    assert_eq!(region.contains(&[32_767]), Ok(true));
+}
+
+/// Listing meets 4 and 7, and leaves the buffer alone.
+#[test]
+fn of_list() {
+    let shelf = Shelf::build(2, vec![1, 2, 3, 4]).unwrap();
+    let mut buffer = [70, 71, 72];
+    let everywhere = Region::everywhere(2).unwrap();
+    let short = shelf.list(&everywhere, &mut buffer[..1]);
+    assert_eq!(short, Err(Refusal::ShortBuffer));
+    let other = shelf.list(&faces(1).unwrap(), &mut buffer);
+    assert_eq!(other, Err(Refusal::FacesLength));
+    assert_eq!(buffer, [70, 71, 72]);
+}
+
+/// Each refusal has a number of its own, and a sentence that gives it.
+#[test]
+fn numbers_and_sentences() {
+    for (number, refusal) in (1..).zip(Refusal::ALL) {
+        assert_eq!(refusal.number(), number);
+        assert_eq!(Refusal::from_number(number), Some(refusal));
+        let sentence = (&refusal as &dyn Error).to_string();
+        assert!(sentence.starts_with(&format!("refused ({number}): ")));
+        assert!(sentence.contains("; "), "{sentence} names no cause");
+    }
+    assert_eq!(Refusal::from_number(0), None);
+    assert_eq!(Refusal::from_number(10), None);
+}

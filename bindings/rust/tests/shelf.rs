@@ -1,0 +1,112 @@
+//! Shelves, regions and listings, as people use them.
+
+use hornherder::{raw, Region, Shelf};
+use std::thread;
+
+const A: [i32; 12] = [1, 5, 4, 2, 4, 8, 7, 1, 6, 6, 2, 2];
+const A_ORDER: [u32; 6] = [1, 5, 0, 2, 3, 4];
+
+/// The region of the scope paper's second example.
+fn two_faces() -> Region {
+    Region::new(2, vec![1, 1, -1, 0], vec![7, -6]).unwrap()
+}
+
+/// A shelf knows its points and its order, whether it owns them or borrows them.
+#[test]
+fn owned_and_borrowed() {
+    let owned = Shelf::build(2, A.to_vec()).unwrap();
+    let borrowed = Shelf::build(2, &A[..]).unwrap();
+    assert_eq!(owned, borrowed);
+    assert_eq!((owned.k(), owned.len()), (2, 6));
+    assert_eq!(owned.points(), A);
+    assert_eq!(owned.order(), A_ORDER);
+    assert_eq!(owned.point(5), Some(&[2, 2][..]));
+    assert_eq!(owned.point(6), None);
+}
+
+/// An order that was built before is taken; what stands behind its last slot is cut off.
+#[test]
+fn existing_order() {
+    let mut longer = A_ORDER.to_vec();
+    longer.extend([99, 99]);
+    let borrowed = Shelf::with_order(2, &A[..], &longer[..]).unwrap();
+    assert_eq!(borrowed.order(), A_ORDER);
+    let owned = Shelf::with_order(2, &A[..], longer.clone()).unwrap();
+    assert_eq!(owned, borrowed);
+    assert_eq!(owned, Shelf::build(2, &A[..]).unwrap());
+}
+
+/// Both lists come in shelf order, and the outside one can be run from either end.
+#[test]
+fn both_lists() {
+    let shelf = Shelf::build(2, &A[..]).unwrap();
+    let mut buffer = [80; 8];
+    let listing = shelf.list(&two_faces(), &mut buffer).unwrap();
+    assert_eq!(listing.inside(), [2, 4]);
+    let mut outside = listing.outside();
+    assert_eq!(outside.len(), 4);
+    assert_eq!((outside.next(), outside.next_back()), (Some(1), Some(3)));
+    assert_eq!(outside.collect::<Vec<_>>(), [5, 0]);
+    assert_eq!(listing.visits(), 5);
+    assert_eq!(buffer, [2, 4, 3, 0, 5, 1, 80, 80]);
+}
+
+/// One buffer serves many listings.
+#[test]
+fn buffer_used_again() {
+    let shelf = Shelf::build(2, &A[..]).unwrap();
+    let mut buffer = vec![0; shelf.len()];
+    for (offset, inside) in [(1, 6), (8, 0), (5, 2)] {
+        let region = Region::everywhere(2).unwrap();
+        let region = region.with_face(&[1, 0], offset).unwrap();
+        let listing = shelf.list(&region, &mut buffer).unwrap();
+        assert_eq!(listing.inside().len(), inside);
+        assert_eq!(listing.outside().len(), 6 - inside);
+    }
+}
+
+/// The empty shelf lists nothing, and asks for no buffer.
+#[test]
+fn empty_shelf() {
+    for k in 1..=4 {
+        let shelf = Shelf::build(k, Vec::new()).unwrap();
+        assert!(shelf.is_empty());
+        let region = Region::everywhere(k).unwrap();
+        let listing = shelf.list(&region, &mut []).unwrap();
+        assert!(listing.inside().is_empty());
+        assert_eq!((listing.outside().len(), listing.visits()), (0, 0));
+    }
+}
+
+/// A region knows its faces, and a point is inside it exactly where the list says so.
+#[test]
+fn faces_and_points() {
+    let region = two_faces();
+    assert_eq!((region.k(), region.h()), (2, 2));
+    let faces: Vec<_> = region.faces().collect();
+    assert_eq!(faces, [(&[1, 1][..], 7), (&[-1, 0][..], -6)]);
+    let inside = |point| region.contains(point).unwrap();
+    let held: Vec<_> = A.chunks(2).map(inside).collect();
+    assert_eq!(held, [false, false, true, false, true, false]);
+}
+
+/// Many threads at once get the same answer.
+#[test]
+fn many_threads() {
+    let points: Vec<i32> = (0..3000).map(|i| i * 7919 % 65_536 - 32_768).collect();
+    let shelf = Shelf::build(3, &points[..]).unwrap();
+    let region = Region::new(3, vec![1, 2, 3], vec![100]).unwrap();
+    let work = || {
+        let mut buffer = vec![0; shelf.len()];
+        let listing = shelf.list(&region, &mut buffer).unwrap();
+        assert_eq!(raw::check(3, 1000, &points, shelf.order()), 0);
+        (listing.visits(), listing.inside().to_vec())
+    };
+    let first = work();
+    thread::scope(|scope| {
+        let others: Vec<_> = (0..8).map(|_| scope.spawn(work)).collect();
+        for other in others {
+            assert_eq!(other.join().unwrap(), first);
+        }
+    });
+}

@@ -1,0 +1,141 @@
+//! Each call made by the library and by the second program, which must agree in the answer and in
+//! every lent place afterwards.
+
+use crate::bounds;
+use crate::lent::Lent;
+use hornherder::raw;
+use std::fmt::Debug;
+
+/// Compares build: the answer, and the order afterwards.
+pub fn build(lent: &Lent) -> (u32, Vec<u32>) {
+    let (mut ours, mut theirs) = (lent.clone(), lent.clone());
+    let answer = raw::build(lent.k, lent.n, &ours.points, &mut ours.order);
+    let expected = second::build(lent.k, lent.n, &theirs.points, &mut theirs.order);
+    assert_eq!(answer, expected, "build of {lent:?}");
+    same_lent("build", lent, &ours, &theirs);
+    kept("build", lent, answer, &lent.order, &ours.order);
+    (answer, ours.order)
+}
+
+/// The shelf of right points: the same with the order that build made, which check accepts.
+pub fn shelf(lent: &Lent) -> Lent {
+    let (code, order) = build(lent);
+    assert_eq!(code, 0, "build of {lent:?}");
+    let shelf = lent.with_order(&order);
+    assert_eq!(check(&shelf), 0, "check of {shelf:?}");
+    shelf
+}
+
+/// Compares check, also with other numbers behind place n.
+pub fn check(lent: &Lent) -> u32 {
+    let ours = lent.clone();
+    let answer = raw::check(lent.k, lent.n, &ours.points, &ours.order);
+    let expected = second::check(lent.k, lent.n, &lent.points, &lent.order);
+    assert_eq!(answer, expected, "check of {lent:?}");
+    same_lent("check", lent, &ours, lent);
+    let other = lent.with_other_marks();
+    let again = raw::check(lent.k, lent.n, &other.points, &other.order);
+    assert_eq!(again, answer, "check by what is behind place n of {lent:?}");
+    answer
+}
+
+/// Compares list, also with other numbers behind place n: the answer, and the list buffer afterwards.
+pub fn list(lent: &Lent) -> (raw::Listing, Vec<u32>) {
+    let mut theirs = lent.clone();
+    let expected = second::list(
+        lent.k,
+        lent.n,
+        lent.h,
+        &lent.points,
+        &lent.order,
+        &lent.normals,
+        &lent.offsets,
+        &mut theirs.list,
+    );
+    let (answer, ours) = listed(lent);
+    let numbers = (answer.code, answer.inside, answer.outside, answer.visits);
+    let theirs_numbers = (
+        expected.code,
+        expected.inside,
+        expected.outside,
+        expected.visits,
+    );
+    assert_eq!(numbers, theirs_numbers, "list of {lent:?}");
+    same_lent("list", lent, &ours, &theirs);
+    kept("list", lent, answer.code, &lent.list, &ours.list);
+    same_behind(lent, answer, &ours);
+    if answer.code == 0 {
+        bounds::hold(lent, answer.visits);
+    }
+    (answer, ours.list)
+}
+
+/// Calls the library's list: the answer, and all that was lent afterwards.
+fn listed(lent: &Lent) -> (raw::Listing, Lent) {
+    let mut ours = lent.clone();
+    let answer = raw::list(
+        lent.k,
+        lent.n,
+        lent.h,
+        &ours.points,
+        &ours.order,
+        &ours.normals,
+        &ours.offsets,
+        &mut ours.list,
+    );
+    (answer, ours)
+}
+
+/// Asks that list answers the same whatever stands behind place n, or in the list buffer before.
+fn same_behind(lent: &Lent, answer: raw::Listing, ours: &Lent) {
+    let other = lent.with_other_marks();
+    let (again, after) = listed(&other);
+    assert_eq!(again, answer, "list by what is behind place n of {lent:?}");
+    kept("list", lent, again.code, &other.list, &after.list);
+    if answer.code == 0 {
+        let (first, second) = (&ours.list[..lent.n], &after.list[..lent.n]);
+        same("list by what is behind place n", lent, first, second);
+    }
+}
+
+/// Compares the one-point test.
+pub fn place(lent: &Lent) -> raw::Placing {
+    let ours = lent.clone();
+    let (normals, offsets) = (&ours.normals, &ours.offsets);
+    let answer = raw::place(lent.k, lent.h, &ours.point, normals, offsets);
+    let (normals, offsets) = (&lent.normals, &lent.offsets);
+    let expected = second::place(lent.k, lent.h, &lent.point, normals, offsets);
+    let numbers = (answer.code, answer.inside);
+    assert_eq!(
+        numbers,
+        (expected.code, expected.inside),
+        "place of {lent:?}"
+    );
+    same_lent("place", lent, &ours, lent);
+    answer
+}
+
+/// Asks that the two calls left all that was lent alike.
+fn same_lent(call: &str, lent: &Lent, ours: &Lent, theirs: &Lent) {
+    same(call, lent, &ours.points, &theirs.points);
+    same(call, lent, &ours.order, &theirs.order);
+    same(call, lent, &ours.normals, &theirs.normals);
+    same(call, lent, &ours.offsets, &theirs.offsets);
+    same(call, lent, &ours.list, &theirs.list);
+    same(call, lent, &ours.point, &theirs.point);
+}
+
+/// Asks that a refused call left every place of its buffer, and a done one those from n on.
+fn kept(call: &str, lent: &Lent, code: u32, before: &[u32], after: &[u32]) {
+    let from = if code == 0 { lent.n } else { 0 };
+    same(call, lent, &after[from..], &before[from..]);
+}
+
+/// Asks that two runs of places are the same, and names the first that is not.
+fn same<T: PartialEq + Debug>(call: &str, lent: &Lent, ours: &[T], theirs: &[T]) {
+    assert_eq!(ours.len(), theirs.len(), "{call} of {lent:?}");
+    let mut places = ours.iter().zip(theirs).enumerate();
+    if let Some((place, (is, should))) = places.find(|(_, (is, should))| is != should) {
+        panic!("{call} of {lent:?}: place {place} is {is:?} and should be {should:?}");
+    }
+}

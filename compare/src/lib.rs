@@ -1,0 +1,10 @@
+//! Compares every call of the library with the second program.
+
+pub mod bounds;
+pub mod calls;
+pub mod cases;
+pub mod chance;
+pub mod damage;
+pub mod faces;
+pub mod lent;
+pub mod stock;

@@ -1,0 +1,66 @@
+//! Full shelves of 65,535 points.
+
+use compare::bounds::Nearness;
+use compare::calls;
+use compare::cases;
+use compare::damage;
+use compare::faces;
+use compare::lent::Lent;
+use compare::stock::Stock;
+use hornherder::raw;
+use std::thread;
+
+const N: usize = 65_535;
+
+/// Compares every call on a full shelf of each kind of points in each dimension.
+#[test]
+fn full_shelves() {
+    let mut nearness = Nearness::default();
+    cases::make("full shelves", 24, |chance, case| {
+        let (k, stock) = (1 + case % 4, Stock::ALL[case / 4 % 6]);
+        let points = stock.points(chance, k, N);
+        let shelf = calls::shelf(&Lent::new(chance, k, points));
+        let h = chance.one_of(&[1, 6, 14, 32]);
+        let (normals, offsets) = faces::region(chance, k, &shelf.points, h);
+        let call = shelf.with_faces(normals, offsets);
+        let (answer, _) = calls::list(&call);
+        assert_eq!(answer.code, 0);
+        nearness.look(&call, answer.visits);
+        let (_, make) = chance.one_of(&damage::ALL);
+        let mut slots = shelf.order[..N].to_vec();
+        make(chance, &mut slots);
+        calls::check(&shelf.with_order(&slots));
+    });
+    println!("full shelves: {nearness}");
+}
+
+/// The deepest calls there are need no more stack than the header says.
+#[test]
+fn stack() {
+    let deepest = || {
+        for k in 1..=4 {
+            let points: Vec<i32> = (0..k * N)
+                .map(|i| (i * 7_919 % 65_536) as i32 - 32_768)
+                .collect();
+            let (mut order, mut list) = (vec![0; N], vec![0; N]);
+            let normals: Vec<i32> = (0..32 * k).map(|i| i as i32 % 7 - 3).collect();
+            assert_eq!(raw::build(k, N, &points, &mut order), 0);
+            assert_eq!(raw::check(k, N, &points, &order), 0);
+            let answer = raw::list(
+                k,
+                N,
+                32,
+                &points,
+                &order,
+                &normals,
+                &[-30_000; 32],
+                &mut list,
+            );
+            assert_eq!(answer.code, 0);
+            assert!(answer.visits > 0);
+            assert_eq!(raw::place(k, 32, &points[..k], &normals, &[0; 32]).code, 0);
+        }
+    };
+    let small = thread::Builder::new().stack_size(raw::STACK_BYTES);
+    small.spawn(deepest).unwrap().join().unwrap();
+}
