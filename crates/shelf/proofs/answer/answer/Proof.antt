@@ -1,0 +1,104 @@
+-- What reading promises decides: 10 is printed, or the answer for the numbers that the text says. They are within the buffers.
+use native.Mathlib.Nat.{sub-zero}
+use native.Mathlib.Omega.{arith}
+use borrow.Author.Needs.{needs}
+use Rattle.shelf.specs.Answering.{Sizes, sizes, answer-ten, answer-shelved}
+use Rattle.shelf.proofs.answer.answer.Statement.{statement}
+use Rattle.shelf.proofs.answer.answer.Tie as tie
+
+-- The sizes that the text says.
+said : (c : tie.Else1) → let r = c .before .before .before .before .before .read .result in Sizes (r .k) (r .n) (r .h)
+said c = sizes (c .before .before .before .before .before .read .ensures) (c .if1 .left)
+
+slice-aggregate-read : tie.Need-slice-aggregate-read
+slice-aggregate-read c = search needs
+
+slice-aggregate-read-2 : tie.Need-slice-aggregate-read-2
+slice-aggregate-read-2 c = search needs
+
+slice-aggregate-read-3 : tie.Need-slice-aggregate-read-3
+slice-aggregate-read-3 c = search needs
+
+read-requires : tie.Need-read-requires
+read-requires c κs = search needs
+
+write-refused-requires : tie.Need-write-refused-requires
+write-refused-requires c κs = search needs
+
+same-length : tie.Need-same-length
+same-length c = search needs
+
+returns : tie.Need-returns
+returns c =
+    let call = c .before .before .before .before .before .before .before .before .before in
+    answer-ten (call .read .ensures) (c .before .before .before .before .if1 .taken) (c .before .before .write-refused .ensures)
+
+mul-coordinates : tie.Need-mul-coordinates
+mul-coordinates c = omega (arith, said c .coordinates)
+
+mul-components : tie.Need-mul-components
+mul-components c = omega (arith, said c .components)
+
+sub-build-shelf : tie.Need-sub-build-shelf
+sub-build-shelf c = search needs
+
+part-build-shelf-start : tie.Need-part-build-shelf-start
+part-build-shelf-start c = search needs
+
+part-build-shelf-end : tie.Need-part-build-shelf-end
+part-build-shelf-end c = omega (arith, said (c .before) .coordinates)
+
+sub-build-shelf-2 : tie.Need-sub-build-shelf-2
+sub-build-shelf-2 c = search needs
+
+part-build-shelf-start-2 : tie.Need-part-build-shelf-start-2
+part-build-shelf-start-2 c = search needs
+
+part-build-shelf-end-2 : tie.Need-part-build-shelf-end-2
+part-build-shelf-end-2 c = omega (arith, said (c .before .before .before) .components)
+
+sub-build-shelf-3 : tie.Need-sub-build-shelf-3
+sub-build-shelf-3 c = search needs
+
+part-build-shelf-start-3 : tie.Need-part-build-shelf-start-3
+part-build-shelf-start-3 c = search needs
+
+part-build-shelf-end-3 : tie.Need-part-build-shelf-end-3
+part-build-shelf-end-3 c = omega (arith, said (c .before .before .before .before .before) .faces)
+
+build-shelf-requires : tie.Need-build-shelf-requires
+build-shelf-requires c κs = omega (arith, said (c .before .before .before .before .before .before .before) .points)
+
+same-length-2 : tie.Need-same-length-2
+same-length-2 c = search needs
+
+returns-2 : tie.Need-returns-2
+returns-2 c =
+    let no = c .before .before .before .before .before .before .before .before .before .before in
+    answer-shelved (no .before .before .before .before .before .read .ensures) (no .if1 .left) (simp sub-zero at (c .before .before .build-shelf .ensures))
+
+pub answer-spec : {M : Type 1} → statement M
+answer-spec =
+    tie.close
+    (tie.spec
+    slice-aggregate-read
+    slice-aggregate-read-2
+    slice-aggregate-read-3
+    read-requires
+    write-refused-requires
+    same-length
+    returns
+    mul-coordinates
+    mul-components
+    sub-build-shelf
+    part-build-shelf-start
+    part-build-shelf-end
+    sub-build-shelf-2
+    part-build-shelf-start-2
+    part-build-shelf-end-2
+    sub-build-shelf-3
+    part-build-shelf-start-3
+    part-build-shelf-end-3
+    build-shelf-requires
+    same-length-2
+    returns-2)

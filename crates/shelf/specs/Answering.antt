@@ -1,0 +1,65 @@
+-- What the calls promise makes up the answer: each way that the program ends is one of the answer's cases.
+use mathlib.Core.Path.{_≡_}
+use mathlib.Core.Logic.{_≢_}
+use mathlib.Core.Bool.{Bool, not, true, false}
+use mathlib.Core.List.{List}
+use Prim.Native.Nat.{ℕ, _*_, _≤_}
+use native.Mathlib.Nat.{mul-le-mul}
+use lib.ListN.{length, take}
+use lib.IntN.{ℤ}
+use Rattle.terms.specs.declared.Listing.{Listing}
+use Rattle.terms.specs.Calls.{Built, listAnswer, listAfter}
+use Rattle.theory.specs.Flags.{not-true, not-false}
+use Rattle.text.specs.Input.{Says}
+use Rattle.text.specs.Answer.{refusedText}
+use Rattle.text.specs.TextReading.{ReadsText}
+use Rattle.text.specs.Printing.{Printed}
+use Rattle.shelf.specs.Answer.{doneText, Listed, list-refused, list-done, Shelved, build-refused, build-done, Answer, not-the-text, the-text, Writes}
+
+module _ {k n h : ℕ} {points : List ℤ} {order : List ℕ} {normals offsets : List ℤ} (list : List ℕ) (room : n ≤ length list) {answer : Listing}
+    (answers : answer ≡ listAnswer k n h points order normals offsets list) {out : List ℕ} {r : ℕ} where
+  -- The list call refused.
+  pub listing-refused : answer .code ≢ 0 → Printed out r (refusedText (answer .code)) → Writes (Listed k n h points order normals offsets) out r
+  listing-refused m p = record { inside = p .inside; kind = list-refused list room (rw (← answers) m) (rw (← answers) (p .bytes)) }
+
+  -- The list call is done.
+  pub listing-done : {after : List ℕ} → after ≡ listAfter k n h points order normals offsets list → answer .code ≡ 0
+      → Printed out r (doneText n order answer after) → Writes (Listed k n h points order normals offsets) out r
+  listing-done a z p = record { inside = p .inside; kind = list-done list room (rw (← answers) z) (rw (← answers, ← a) (p .bytes)) }
+
+module _ {k n h : ℕ} {points normals offsets : List ℤ} {order after : List ℕ} {number : ℕ} (room : n ≤ length order)
+    (built : Built k n points order number after) {out : List ℕ} {r : ℕ} where
+  -- The build call refused.
+  pub building-refused : number ≢ 0 → Printed out r (refusedText number) → Writes (Shelved k n h points normals offsets) out r
+  building-refused m p = record { inside = p .inside; kind = build-refused order after number room built m (p .bytes) }
+
+  -- The build call is done.
+  pub building-done : number ≡ 0 → Writes (Listed k n h points after normals offsets) out r → Writes (Shelved k n h points normals offsets) out r
+  building-done z w = record { inside = w .inside; kind = build-done order after room (rw z at built) (w .kind) }
+
+module _ {text : List ℕ} {points normals offsets : List ℤ} {ok : Bool} {k n h : ℕ} (reads : ReadsText text points normals offsets ok k n h)
+    {out : List ℕ} {r : ℕ} where
+  -- The text says no numbers.
+  pub answer-ten : not ok ≡ true → Printed out r (refusedText 10) → Writes (Answer text) out r
+  answer-ten m p = record { inside = p .inside; kind = not-the-text (reads .silent (not-true ok m)) (p .bytes) }
+
+  -- The text says numbers.
+  pub answer-shelved : not ok ≡ false → Writes (Shelved k n h (take (k * n) points) (take (k * h) normals) (take h offsets)) out r → Writes (Answer text) out r
+  answer-shelved y w = record { inside = w .inside; kind = the-text (reads .says (not-false ok y)) (w .kind) }
+
+-- The sizes of what a text says, for which the buffers have room.
+pub record Sizes (k n h : ℕ) : Type 0 where
+  pub points : n ≤ 512
+  pub faces : h ≤ 64
+  pub coordinates : k * n ≤ 4608
+  pub components : k * h ≤ 576
+
+pub sizes : {text : List ℕ} {points normals offsets : List ℤ} {ok : Bool} {k n h : ℕ} → ReadsText text points normals offsets ok k n h → not ok ≡ false
+    → Sizes k n h
+sizes {ok = ok} reads y =
+    let a = reads .says (not-false ok y) .admitted in record {
+      points = a .points-few;
+      faces = a .faces-few;
+      coordinates = mul-le-mul (a .few) (a .points-few);
+      components = mul-le-mul (a .few) (a .faces-few);
+    }

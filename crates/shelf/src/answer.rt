@@ -1,0 +1,91 @@
+// What the program answers to a text: it reads the text, builds the shelf, lists it against the region, and writes the answer.
+ghost use Prim.Native.Nat.{_≤_};
+ghost use lib.ListN.{length};
+ghost use Rattle.shelf.specs.Answer.{Listed, Shelved, Answer, Writes};
+use hornherder::hornherder_build;
+use hornherder::hornherder_list;
+use text::input::read;
+use text::output::write_answer;
+use text::output::write_refused;
+
+// Writes the answer to a text, and says how many bytes it is.
+pub fn answer(input: &[u8], out: &mut [u8]) -> usize
+    requires { ⌜ 16384 ≤ length (now out) ⌝ }
+    ensures { λ r. ⌜ Writes (Answer (now (input .entry))) (now (out .exit)) r ⌝ }
+{
+    let mut points = [0i32; 4608];
+    let mut normals = [0i32; 576];
+    let mut offsets = [0i64; 64];
+    let said = read(input, &mut points, &mut normals, &mut offsets);
+    if !said.ok {
+        return write_refused(10, out);
+    }
+    let k = said.k;
+    let n = said.n;
+    let h = said.h;
+    let coordinates = k * n;
+    let components = k * h;
+    build_shelf(
+        k,
+        n,
+        h,
+        &points[0..coordinates],
+        &normals[0..components],
+        &offsets[0..h],
+        out,
+    )
+}
+
+// Builds the shelf of the points and lists it, or writes the refusal of the build call.
+fn build_shelf(
+    k: usize,
+    n: usize,
+    h: usize,
+    points: &[i32],
+    normals: &[i32],
+    offsets: &[i64],
+    out: &mut [u8],
+) -> usize
+    requires { ⌜ n ≤ 512 ⌝ }
+    requires { ⌜ 16384 ≤ length (now out) ⌝ }
+    ensures { λ r. ⌜ Writes (Shelved k n h (now (points .entry)) (now (normals .entry)) (now (offsets .entry))) (now (out .exit)) r ⌝ }
+{
+    let mut order = [0u32; 512];
+    let number = hornherder_build(k, n, points, &mut order);
+    if number != 0 {
+        return write_refused(number, out);
+    }
+    list_shelf(k, n, h, points, &order, normals, offsets, out)
+}
+
+// Lists a shelf and writes its order, the counts and the list, or the refusal of the list call.
+fn list_shelf(
+    k: usize,
+    n: usize,
+    h: usize,
+    points: &[i32],
+    order: &[u32],
+    normals: &[i32],
+    offsets: &[i64],
+    out: &mut [u8],
+) -> usize
+    requires { ⌜ n ≤ 512 ⌝ }
+    requires { ⌜ n ≤ length (now order) ⌝ }
+    requires { ⌜ 16384 ≤ length (now out) ⌝ }
+    ensures { λ r. ⌜ Writes (Listed k n h (now (points .entry)) (now (order .entry)) (now (normals .entry)) (now (offsets .entry))) (now (out .exit)) r ⌝ }
+{
+    let mut list = [0u32; 512];
+    let listing = hornherder_list(k, n, h, points, order, normals, offsets, &mut list);
+    if listing.code != 0 {
+        return write_refused(listing.code, out);
+    }
+    write_answer(
+        n,
+        order,
+        listing.inside,
+        listing.outside,
+        listing.visits,
+        &list,
+        out,
+    )
+}
