@@ -1,0 +1,65 @@
+//! The build and the check call beside other builders.
+
+use crate::builder;
+use crate::clock::{best_of, Contender};
+use crate::cpp::{CgalPoints, CgalTree, Nanoflann};
+use crate::library;
+use crate::measured::Measured;
+use crate::stock::Stock;
+
+/// How many points a leaf of nanoflann's index holds at most, as it is by itself.
+const LEAF: usize = 10;
+
+/// The order that the library builds. It stops where the library refuses, or where a builder or the check call does not agree.
+pub fn agreed_order(stock: &Stock) -> Vec<u32> {
+    let mut order = vec![u32::MAX; stock.n];
+    assert_eq!(library::build(stock, &mut order), 0, "the build call");
+    assert_eq!(library::check(stock, &order), 0, "the check call");
+    let mut other = vec![0; stock.n];
+    builder::build(stock, &mut other);
+    assert!(order == other, "{}: the Rust builder's order", stock.kind);
+    builder::build_packed(stock, &mut other);
+    assert!(order == other, "{}: the packed order", stock.kind);
+    nanoflann_agrees(stock);
+    order
+}
+
+/// Stops where nanoflann's index does not find just the points that are near to some of them.
+fn nanoflann_agrees(stock: &Stock) {
+    let index = Nanoflann::build(stock, LEAF);
+    for number in [0, stock.n / 2, stock.n - 1] {
+        let centre = &stock.points[number * stock.k..(number + 1) * stock.k];
+        let squared = 3_000 * 3_000;
+        let distance = |point: &[i32]| -> i64 {
+            let steps = point.iter().zip(centre);
+            steps.map(|(&x, &y)| i64::from(x - y).pow(2)).sum()
+        };
+        let points = stock.points.chunks(stock.k);
+        let near = points.filter(|point| distance(point) < squared).count();
+        assert_eq!(index.near(centre, squared), near, "{}", stock.kind);
+    }
+}
+
+/// Measures every builder, and the check call, on one shelf with its order.
+pub fn measure(stock: &Stock, order: &[u32], rounds: usize) -> Measured {
+    let points = CgalPoints::new(stock);
+    let mut orders: [Vec<u32>; 3] = std::array::from_fn(|_| vec![0; stock.n]);
+    let [first, second, third] = &mut orders;
+    let contenders = vec![
+        Contender::new("build", || library::build(stock, first)),
+        Contender::new("check", || library::check(stock, order)),
+        Contender::new("nanoflann", || Nanoflann::build(stock, LEAF)),
+        Contender::new("CGAL", || CgalTree::build(&points)),
+        Contender::new("Rust builder", || builder::build(stock, second)),
+        Contender::new("Rust builder, packed", || {
+            builder::build_packed(stock, third)
+        }),
+    ];
+    Measured {
+        points: stock.kind,
+        k: stock.k,
+        n: stock.n,
+        asked: None,
+        times: best_of(rounds, contenders),
+    }
+}

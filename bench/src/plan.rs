@@ -1,0 +1,106 @@
+//! Which shelves and regions are measured.
+
+use crate::builds;
+use crate::hard::{AGAINST_SAMPLES, HARD};
+use crate::lists::{self, Shelf};
+use crate::measured::Measured;
+use crate::region::{one_plane, slanted, square, Region};
+use crate::stock::{Kind, Stock, CLUSTERED, ON_A_PLANE, ORDINARY, SPREAD};
+use crate::targets::{DIMENSION, FULL, SMALLER};
+
+/// How much is measured.
+pub struct Plan {
+    pub seed: u64,
+    pub rounds: usize,
+    pub quick: bool,
+}
+
+impl Plan {
+    /// The sizes for the plot and the growth, smallest first.
+    fn sizes(&self) -> Vec<usize> {
+        match self.quick {
+            true => vec![1_000, SMALLER, FULL],
+            false => vec![1_000, 2_048, 4_096, SMALLER, 16_384, 32_768, FULL],
+        }
+    }
+
+    /// Every workload: the sizes, the dimensions, the other kinds, the hard ones.
+    pub fn measure(&self) -> Vec<Measured> {
+        let mut out = Vec::new();
+        for n in self.sizes() {
+            let few = n != FULL || self.quick;
+            let regions = if few { eight_faces } else { all_regions };
+            out.extend(self.shelf(CLUSTERED, DIMENSION, n, regions));
+        }
+        if self.quick {
+            out.extend(self.shelf(AGAINST_SAMPLES, DIMENSION, FULL, no_region));
+            return out;
+        }
+        for k in [1, 2, 4] {
+            out.extend(self.shelf(CLUSTERED, k, FULL, some_regions));
+            out.extend(self.shelf(SPREAD, k, FULL, eight_faces));
+        }
+        for kind in &ORDINARY[1..] {
+            out.extend(self.shelf(*kind, DIMENSION, FULL, some_regions));
+        }
+        out.extend(self.shelf(ON_A_PLANE, DIMENSION, FULL, worst_region));
+        for kind in HARD {
+            out.extend(self.shelf(kind, DIMENSION, FULL, no_region));
+        }
+        out
+    }
+
+    /// One shelf: its build, then each of its regions.
+    fn shelf(&self, kind: Kind, k: usize, n: usize, regions: Regions) -> Vec<Measured> {
+        eprintln!("measuring {}, k {k}, n {n}", kind.name);
+        let stock = kind.stock(k, n, self.seed);
+        let order = builds::agreed_order(&stock);
+        let mut out = vec![builds::measure(&stock, &order, self.rounds)];
+        let regions = regions(&stock, self.seed);
+        if !regions.is_empty() {
+            let shelf = Shelf::new(&stock, &order);
+            let lists = regions.iter();
+            out.extend(lists.map(|region| lists::measure(&shelf, region, 2 * self.rounds)));
+        }
+        out
+    }
+}
+
+/// The regions that a shelf is asked for.
+type Regions = fn(&Stock, u64) -> Vec<Region>;
+
+/// None: the shelf is only built and checked.
+fn no_region(_: &Stock, _: u64) -> Vec<Region> {
+    Vec::new()
+}
+
+/// The one that the plot draws.
+fn eight_faces(stock: &Stock, seed: u64) -> Vec<Region> {
+    vec![slanted(stock, 8, 0.01, seed)]
+}
+
+/// Slanted ones of few and of many faces, and a square box.
+fn some_regions(stock: &Stock, seed: u64) -> Vec<Region> {
+    vec![
+        slanted(stock, 8, 0.01, seed),
+        slanted(stock, 32, 0.01, seed),
+        square(stock, 0.01, seed),
+    ]
+}
+
+/// Slanted ones of every number of faces and every share, and square boxes.
+fn all_regions(stock: &Stock, seed: u64) -> Vec<Region> {
+    let mut out = Vec::new();
+    for h in [6, 8, 14, 32] {
+        for share in [0.001, 0.01, 0.05] {
+            out.push(slanted(stock, h, share, seed));
+        }
+    }
+    out.extend([0.001, 0.01, 0.05].map(|share| square(stock, share, seed)));
+    out
+}
+
+/// The one that opens nearly every branch of a shelf whose points are all on its faces.
+fn worst_region(stock: &Stock, _: u64) -> Vec<Region> {
+    vec![one_plane(stock.k)]
+}

@@ -1,0 +1,122 @@
+//! Regions around a stock point, as large as the share of the shelf that they are to hold.
+
+use crate::numbers::Numbers;
+use crate::stock::Stock;
+
+/// The largest offset either side of 0.
+const FURTHEST: f64 = 8_589_934_592.0;
+
+/// The faces of a region, what kind they are, and which share of the shelf they are to hold.
+pub struct Region {
+    pub kind: &'static str,
+    pub share: f64,
+    pub h: usize,
+    pub normals: Vec<i32>,
+    pub offsets: Vec<i64>,
+}
+
+/// The sum of the products of a normal and a point.
+fn sum(normal: &[i32], point: &[i32]) -> i64 {
+    let products = normal.iter().zip(point);
+    products.map(|(&a, &b)| i64::from(a) * i64::from(b)).sum()
+}
+
+/// The length of a normal.
+fn length(normal: &[i32]) -> f64 {
+    (sum(normal, normal) as f64).sqrt()
+}
+
+/// A region of slanted faces, in pairs of opposite ones, that holds this share of the shelf around one of its points.
+pub fn slanted(stock: &Stock, h: usize, share: f64, seed: u64) -> Region {
+    let mut numbers = Numbers::new(seed ^ ((h * 8 + stock.k) as u64));
+    let mut normals: Vec<i32> = Vec::new();
+    for _ in 0..h / 2 {
+        let normal = furthest_line(stock.k, &normals, &mut numbers);
+        normals.extend(&normal);
+        normals.extend(normal.iter().map(|component| -component));
+    }
+    let centre = numbers.below(stock.n);
+    around(stock, "slanted", centre, normals, share)
+}
+
+/// A box with two faces across each dimension that holds this share of the shelf around one of its points.
+pub fn square(stock: &Stock, share: f64, seed: u64) -> Region {
+    let k = stock.k;
+    let mut normals = vec![0; 2 * k * k];
+    for d in 0..k {
+        normals[2 * d * k + d] = 1;
+        normals[(2 * d + 1) * k + d] = -1;
+    }
+    let centre = Numbers::new(seed).below(stock.n);
+    around(stock, "square", centre, normals, share)
+}
+
+/// As many faces as are allowed, all of them the plane of sum 0 but for their scale.
+pub fn one_plane(k: usize) -> Region {
+    let h = 32;
+    Region {
+        kind: "one plane",
+        share: 1.0,
+        h,
+        normals: (0..h).flat_map(|face| vec![face as i32 + 1; k]).collect(),
+        offsets: vec![0; h],
+    }
+}
+
+/// A slanted line of which no component is small: of some tries the one that is furthest from those before.
+fn furthest_line(k: usize, before: &[i32], numbers: &mut Numbers) -> Vec<i32> {
+    let mut best = (f64::MAX, Vec::new());
+    for _ in 0..60 {
+        let line = slanted_line(k, numbers);
+        let near = |other: &[i32]| sum(&line, other) as f64 / length(&line) / length(other);
+        let nearest = before.chunks(k).map(near).fold(-1.0, f64::max);
+        if nearest < best.0 {
+            best = (nearest, line);
+        }
+    }
+    best.1
+}
+
+/// A line anywhere, of which each component is at least an eighth of the length.
+fn slanted_line(k: usize, numbers: &mut Numbers) -> Vec<i32> {
+    loop {
+        let line: Vec<i32> = (0..k).map(|_| (4_000.0 * numbers.bell()) as i32).collect();
+        let eighth = length(&line) / 8.0;
+        if line.iter().all(|c| *c != 0 && f64::from(c.abs()) >= eighth) {
+            return line;
+        }
+    }
+}
+
+/// The faces with these normals, moved away from the point until they hold this share of the shelf.
+fn around(
+    stock: &Stock,
+    kind: &'static str,
+    centre: usize,
+    normals: Vec<i32>,
+    share: f64,
+) -> Region {
+    let k = stock.k;
+    let centre = &stock.points[centre * k..(centre + 1) * k];
+    let lengths: Vec<f64> = normals.chunks(k).map(length).collect();
+    let beyond = |point: &[i32]| {
+        let faces = normals.chunks(k).zip(&lengths);
+        let distance =
+            |(normal, length)| (sum(normal, centre) - sum(normal, point)) as f64 / length;
+        faces.map(distance).fold(0.0, f64::max)
+    };
+    let mut distances: Vec<f64> = stock.points.chunks(k).map(beyond).collect();
+    distances.sort_by(f64::total_cmp);
+    let last = (share * stock.n as f64) as usize;
+    let reach = distances[last.min(stock.n - 1)];
+    let faces = normals.chunks(k).zip(&lengths);
+    let offset = |(normal, length): (&[i32], &f64)| sum(normal, centre) as f64 - reach * length;
+    let offsets = faces.map(|face| offset(face).floor().clamp(-FURTHEST, FURTHEST) as i64);
+    Region {
+        kind,
+        share,
+        h: lengths.len(),
+        offsets: offsets.collect(),
+        normals,
+    }
+}

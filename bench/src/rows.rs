@@ -1,0 +1,69 @@
+//! The rows of the table: one ratio each.
+
+use crate::measured::{Asked, Measured};
+
+/// One ratio: what the library takes, against what, and what it is to be at most.
+pub struct Row {
+    pub call: &'static str,
+    pub points: &'static str,
+    pub k: usize,
+    pub n: usize,
+    pub asked: Option<Asked>,
+    pub micros: f64,
+    pub against: String,
+    pub other_micros: f64,
+    pub at_most: Option<f64>,
+}
+
+impl Row {
+    /// The ratio: below 1 the library is faster.
+    pub fn ratio(&self) -> f64 {
+        self.micros / self.other_micros
+    }
+
+    /// Whether the target is reached, where there is one.
+    pub fn reached(&self) -> Option<bool> {
+        self.at_most.map(|at_most| self.ratio() <= at_most)
+    }
+}
+
+/// What is compared for a shelf alone: a time of the library and another.
+const BUILD_PAIRS: [(&str, &str); 5] = [
+    ("build", "nanoflann"),
+    ("build", "CGAL"),
+    ("build", "Rust builder"),
+    ("build", "Rust builder, packed"),
+    ("check", "build"),
+];
+
+/// What is compared for a region.
+const LIST_PAIRS: [(&str, &str); 8] = [
+    ("walk", "walk by hand"),
+    ("walk", "scan in Rust"),
+    ("walk", "scan in C++"),
+    ("walk", "scan by number in C++"),
+    ("list", "scan in Rust"),
+    ("list", "scan in C++"),
+    ("list", "scan by number in C++"),
+    ("list", "CGAL"),
+];
+
+/// The rows of one workload, with no target yet.
+pub fn rows(measured: &Measured) -> Vec<Row> {
+    let pairs: &[(&'static str, &'static str)] = match measured.asked {
+        None => &BUILD_PAIRS,
+        Some(_) => &LIST_PAIRS,
+    };
+    let row = |&(call, against): &(&'static str, &'static str)| Row {
+        call,
+        points: measured.points,
+        k: measured.k,
+        n: measured.n,
+        asked: measured.asked,
+        micros: measured.time(call),
+        against: against.to_string(),
+        other_micros: measured.time(against),
+        at_most: None,
+    };
+    pairs.iter().map(row).collect()
+}

@@ -1,0 +1,81 @@
+//! What is to be reached on a full shelf of clustered points in three dimensions.
+
+use crate::measured::Measured;
+use crate::rows::Row;
+
+/// The dimension and the sizes that the targets speak of.
+pub const DIMENSION: usize = 3;
+pub const FULL: usize = 65_535;
+pub const SMALLER: usize = 8_192;
+
+/// What a ratio is to be at most, where there is a target for it.
+fn at_most(row: &Row) -> Option<f64> {
+    if row.points != "clustered" || row.k != DIMENSION || row.n != FULL {
+        return None;
+    }
+    let eight = matches!(&row.asked, Some(asked) if asked.h == 8 && asked.kind == "slanted");
+    match (row.call, row.against.as_str()) {
+        ("build", "nanoflann") => Some(0.5),
+        ("build", "CGAL") => Some(0.7),
+        ("build", "Rust builder") => Some(0.9),
+        ("check", "build") => Some(0.15),
+        ("walk", "walk by hand") => Some(1.2),
+        ("walk", "scan in Rust" | "scan in C++") if eight => Some(0.5),
+        ("list", "scan in Rust" | "scan in C++") if eight => Some(1.5),
+        _ => None,
+    }
+}
+
+/// Sets the targets of these rows, adds the two that join several workloads, and puts the rows with a target last.
+pub fn with_targets(mut rows: Vec<Row>, measured: &[Measured]) -> Vec<Row> {
+    for row in &mut rows {
+        row.at_most = at_most(row);
+    }
+    rows.extend(worst_build(measured));
+    rows.extend(growth(measured));
+    rows.sort_by_key(|row| row.at_most.is_some());
+    rows
+}
+
+/// The build of one kind of points in three dimensions, where it was measured.
+fn build_of<'a>(measured: &'a [Measured], points: &str, n: usize) -> Option<&'a Measured> {
+    let mut builds = measured.iter().filter(|m| m.asked.is_none());
+    builds.find(|m| m.points == points && m.k == DIMENSION && m.n == n)
+}
+
+/// The slowest build of a full shelf against the one of clustered points: at most 3.
+fn worst_build(measured: &[Measured]) -> Option<Row> {
+    let ordinary = build_of(measured, "clustered", FULL)?;
+    let full = |m: &&Measured| m.asked.is_none() && m.k == DIMENSION && m.n == FULL;
+    let times = measured.iter().filter(full);
+    let worst = times.max_by(|x, y| x.time("build").total_cmp(&y.time("build")))?;
+    Some(Row {
+        call: "worst build",
+        points: worst.points,
+        k: DIMENSION,
+        n: FULL,
+        asked: None,
+        micros: worst.time("build"),
+        against: "build, clustered".to_string(),
+        other_micros: ordinary.time("build"),
+        at_most: Some(3.0),
+    })
+}
+
+/// The build of a full shelf against what n log n makes of the build of a smaller one: at most 1.3.
+fn growth(measured: &[Measured]) -> Option<Row> {
+    let large = build_of(measured, "clustered", FULL)?;
+    let small = build_of(measured, "clustered", SMALLER)?;
+    let work = |n: usize| n as f64 * (n as f64).log2();
+    Some(Row {
+        call: "growth",
+        points: large.points,
+        k: DIMENSION,
+        n: FULL,
+        asked: None,
+        micros: large.time("build"),
+        against: "n log n from 8,192".to_string(),
+        other_micros: small.time("build") * work(FULL) / work(SMALLER),
+        at_most: Some(1.3),
+    })
+}

@@ -1,0 +1,198 @@
+//! Algorithm 4 by hand, with no proof: live faces, and the corner of a box filled by the signs of a face.
+
+use crate::library::Listing;
+use crate::region::Region;
+use crate::stock::Stock;
+
+/// A box by its two corner rows.
+#[derive(Clone, Copy)]
+struct Rows {
+    low: [i32; 4],
+    high: [i32; 4],
+}
+
+/// The faces that the present box is not known to be wholly above, in rising order.
+#[derive(Clone, Copy)]
+struct Live {
+    face: [u8; 32],
+    count: usize,
+}
+
+/// What a box is found to be.
+enum Judgement {
+    Below,
+    Above,
+    Open(Live),
+}
+
+/// What a walk reads, and how far it has come.
+struct Walk<'a> {
+    stock: &'a Stock,
+    order: &'a [u32],
+    region: &'a Region,
+    list: &'a mut [u32],
+    front: usize,
+    back: usize,
+    visits: u32,
+}
+
+/// Lists the numbers of the order inside and outside the region, without any test of what is lent.
+pub fn walk(stock: &Stock, order: &[u32], region: &Region, list: &mut [u32]) -> Listing {
+    let mut live = Live {
+        face: [0; 32],
+        count: region.h,
+    };
+    for face in 0..region.h {
+        live.face[face] = face as u8;
+    }
+    let mut walk = Walk {
+        stock,
+        order,
+        region,
+        front: 0,
+        back: list.len(),
+        list,
+        visits: 0,
+    };
+    walk.branch(0, stock.n, 0, root_rows(stock), &live);
+    Listing {
+        code: 0,
+        inside: walk.front as u32,
+        outside: (stock.n - walk.front) as u32,
+        visits: walk.visits,
+    }
+}
+
+/// The least and the greatest coordinate over all points, in each dimension.
+fn root_rows(stock: &Stock) -> Rows {
+    let mut rows = Rows {
+        low: [0; 4],
+        high: [0; 4],
+    };
+    rows.low[..stock.k].fill(i32::MAX);
+    rows.high[..stock.k].fill(i32::MIN);
+    for point in stock.points.chunks_exact(stock.k) {
+        for (d, &x) in point.iter().enumerate() {
+            rows.low[d] = rows.low[d].min(x);
+            rows.high[d] = rows.high[d].max(x);
+        }
+    }
+    rows
+}
+
+impl Walk<'_> {
+    /// Hands a settled branch to a list as one run, and an open one to its node.
+    fn branch(&mut self, start: usize, length: usize, s: usize, rows: Rows, live: &Live) {
+        if length == 0 {
+            return;
+        }
+        let run = &self.order[start..start + length];
+        match self.judge(&rows, live) {
+            Judgement::Below => {
+                self.back -= length;
+                let places = &mut self.list[self.back..self.back + length];
+                for (place, &number) in places.iter_mut().rev().zip(run) {
+                    *place = number;
+                }
+            }
+            Judgement::Above => {
+                self.list[self.front..self.front + length].copy_from_slice(run);
+                self.front += length;
+            }
+            Judgement::Open(live) => self.node(start, length, s, rows, &live),
+        }
+    }
+
+    /// Counts the visit, walks the left branch, lists the node by its own test, and walks the right branch.
+    fn node(&mut self, start: usize, length: usize, s: usize, rows: Rows, live: &Live) {
+        self.visits += 1;
+        let half = length / 2;
+        let number = self.order[start + half];
+        let point = self.point(number);
+        let next = if s + 1 == self.stock.k { 0 } else { s + 1 };
+        let (mut left, mut right) = (rows, rows);
+        left.high[s] = point[s];
+        right.low[s] = point[s];
+        self.branch(start, half, next, left, live);
+        self.place(number, point, live);
+        self.branch(start + half + 1, length - half - 1, next, right, live);
+    }
+
+    /// Lists one number by its point.
+    fn place(&mut self, number: u32, point: [i32; 4], live: &Live) {
+        let mut faces = live.face[..live.count].iter();
+        if faces.all(|&face| self.is_above(usize::from(face), &point)) {
+            self.list[self.front] = number;
+            self.front += 1;
+        } else {
+            self.back -= 1;
+            self.list[self.back] = number;
+        }
+    }
+
+    /// Judges a box against the live faces, up to the first that it is wholly below.
+    fn judge(&self, rows: &Rows, live: &Live) -> Judgement {
+        let mut left = Live {
+            face: [0; 32],
+            count: 0,
+        };
+        for &face in &live.face[..live.count] {
+            let f = usize::from(face);
+            if !self.is_above(f, &self.corner(f, &rows.low, &rows.high)) {
+                if !self.is_above(f, &self.corner(f, &rows.high, &rows.low)) {
+                    return Judgement::Below;
+                }
+                left.face[left.count] = face;
+                left.count += 1;
+            }
+        }
+        match left.count {
+            0 => Judgement::Above,
+            _ => Judgement::Open(left),
+        }
+    }
+
+    /// The components of a face.
+    fn normal(&self, face: usize) -> &[i32] {
+        let k = self.stock.k;
+        &self.region.normals[face * k..(face + 1) * k]
+    }
+
+    /// The corner that takes the first row where the component is 0 or more, else the second. Four turns for every k, as the library has
+    /// them, let the compiler write the loop out.
+    fn corner(&self, face: usize, first: &[i32; 4], second: &[i32; 4]) -> [i32; 4] {
+        let normal = self.normal(face);
+        let mut corner = [0; 4];
+        for d in 0..4 {
+            if let Some(&component) = normal.get(d) {
+                corner[d] = if component >= 0 { first[d] } else { second[d] };
+            }
+        }
+        corner
+    }
+
+    /// Whether a point or a corner is above the face.
+    fn is_above(&self, face: usize, x: &[i32; 4]) -> bool {
+        let normal = self.normal(face);
+        let mut sum = 0;
+        for (d, &coordinate) in x.iter().enumerate() {
+            if let Some(&component) = normal.get(d) {
+                sum += i64::from(component) * i64::from(coordinate);
+            }
+        }
+        sum >= self.region.offsets[face]
+    }
+
+    /// The coordinates of a number, in a row of four.
+    fn point(&self, number: u32) -> [i32; 4] {
+        let k = self.stock.k;
+        let coordinates = &self.stock.points[number as usize * k..][..k];
+        let mut point = [0; 4];
+        for (d, place) in point.iter_mut().enumerate() {
+            if let Some(&x) = coordinates.get(d) {
+                *place = x;
+            }
+        }
+        point
+    }
+}
