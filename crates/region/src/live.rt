@@ -1,4 +1,5 @@
-// The faces not yet known to be wholly above the present box, and what is asked of them.
+// The live faces: those not yet known to be wholly above the present box, as the first `count` of 32 entries, in rising order. They are lent
+// from a branch to its children, so that none is copied.
 use crate::faces::point_above;
 use crate::points::point_at;
 ghost use Prim.Native.Nat.{_≤_};
@@ -8,25 +9,16 @@ ghost use Rattle.region.specs.Ranges.{Faces};
 ghost use Rattle.region.specs.Points.{HasPoint};
 ghost use Rattle.region.specs.Live.{LiveFaces, AllLive, InsideByLive};
 
-// The first count entries are the live faces, in rising order.
-pub struct Live {
-    pub face: [u8; 32],
-    pub count: usize,
-}
-
-// All faces, which are live before any box is asked.
-pub fn all_faces(h: usize) -> Live
+// All faces, which are live before any box is asked: the first h entries.
+pub fn all_faces(h: usize) -> [u8; 32]
     requires { ⌜ h ≤ 32 ⌝ }
-    ensures { λ r. ⌜ AllLive h (r .face) (r .count) ⌝ }
+    ensures { λ r. ⌜ AllLive h r h ⌝ }
 {
-    let mut face = [0u8; 32];
+    let mut live = [0u8; 32];
     for t in 0..h {
-        face[t] = t as u8;
+        live[t] = t as u8;
     }
-    Live {
-        face: face,
-        count: h,
-    }
+    live
 }
 
 // Whether point p, which lies in a box for which these faces are live, is inside the region.
@@ -37,17 +29,17 @@ pub fn inside_live(
     normals: &[i32],
     offsets: &[i64],
     p: usize,
-    live: Live,
+    live: &[u8; 32],
+    count: usize,
 ) -> bool
     requires { ⌜ Faces k h (now normals) (now offsets) ⌝ }
     requires { ⌜ HasPoint k (now points) p ⌝ }
-    requires { ⌜ LiveFaces h (live .face) (live .count) ⌝ }
-    ensures { λ r. ⌜ InsideByLive (region k h (now (normals .entry)) (now (offsets .entry))) (live .face) (live .count) (coord k (now (points .entry)) p) r ⌝ }
+    requires { ⌜ LiveFaces h (now live) count ⌝ }
+    ensures { λ r. ⌜ InsideByLive (region k h (now (normals .entry)) (now (offsets .entry))) (now (live .entry)) count (coord k (now (points .entry)) p) r ⌝ }
 {
     let x = point_at(points, k, p);
-    let count = live.count;
     for t in 0..count {
-        if !point_above(k, h, normals, offsets, live.face[t] as usize, x) {
+        if !point_above(k, h, normals, offsets, live[t] as usize, x) {
             return false;
         }
     }

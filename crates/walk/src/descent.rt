@@ -6,7 +6,6 @@ use crate::points::coordinate;
 use region::boxes::left_box;
 use region::boxes::right_box;
 use region::judge::judge;
-use region::live::Live;
 use region::live::inside_live;
 use terms::CornerRows;
 ghost use mathlib.Core.Path.{_≡_};
@@ -18,53 +17,42 @@ ghost use Rattle.terms.specs.Region.{isOpen};
 ghost use Rattle.walk.specs.Fill.{Placed};
 ghost use Rattle.walk.specs.Descent.{BranchAsks, BranchDoes, Child, regionOf};
 
-// A branch: where its run of slots starts and how long it is, its depth and its box.
+// A branch's slots: where its run starts and how long it is, and its depth.
 pub struct Run {
     pub start: usize,
     pub length: usize,
     pub depth: usize,
-    pub rows: CornerRows,
 }
 
-// The left branch of a branch whose node has the coordinate x on dimension s.
-fn left_run(run: Run, s: usize, x: i32) -> Run
-    requires { ⌜ s < 4 ⌝ }
+// The left branch of a branch.
+fn left_run(run: Run) -> Run
     requires { ⌜ run .depth + 1 < 2 ^ 64 ⌝ }
-    ensures { λ r. ⌜ Child (run .start) (run .length / 2) (run .depth) (leftBox (boxOf (run .rows)) s x)
-        (r .start) (r .length) (r .depth) (boxOf (r .rows)) ⌝ }
+    ensures { λ r. ⌜ Child (run .start) (run .length / 2) (run .depth) (r .start) (r .length) (r .depth) ⌝ }
 {
-    let rows = run.rows;
-    let left = left_box(rows, s, x);
     Run {
         start: run.start,
         length: run.length / 2,
         depth: run.depth + 1,
-        rows: left,
     }
 }
 
 // The right branch.
-fn right_run(run: Run, s: usize, x: i32) -> Run
-    requires { ⌜ s < 4 ⌝ }
+fn right_run(run: Run) -> Run
     requires { ⌜ run .depth + 1 < 2 ^ 64 ⌝ }
     requires { ⌜ 0 < run .length ⌝ }
     requires { ⌜ run .start + run .length < 2 ^ 64 ⌝ }
-    ensures { λ r. ⌜ Child (run .start + run .length / 2 + 1) (run .length - run .length / 2 - 1) (run .depth) (rightBox (boxOf (run .rows)) s x)
-        (r .start) (r .length) (r .depth) (boxOf (r .rows)) ⌝ }
+    ensures { λ r. ⌜ Child (run .start + run .length / 2 + 1) (run .length - run .length / 2 - 1) (run .depth) (r .start) (r .length) (r .depth) ⌝ }
 {
-    let rows = run.rows;
-    let right = right_box(rows, s, x);
     let half = run.length / 2;
     Run {
         start: run.start + half + 1,
         length: run.length - half - 1,
         depth: run.depth + 1,
-        rows: right,
     }
 }
 
-// The part for a branch: its box is judged against the faces that are live for it. A settled run goes to a list as one part of the order, an
-// open one to the part for its node.
+// The part for a branch: its box is judged against the `count` faces that are live for it. A settled run goes to a list as one part of the order,
+// an open one to the part for its node, with the faces that are left.
 pub fn branch(
     k: usize,
     points: &[i32],
@@ -72,13 +60,15 @@ pub fn branch(
     normals: &[i32],
     offsets: &[i64],
     run: Run,
-    live: Live,
+    rows: CornerRows,
+    live: &[u8; 32],
+    count: usize,
     list: &mut [u32],
     tally: Tally,
 ) -> Tally
-    requires { ⌜ BranchAsks k (now points) (now order) (now normals) (now offsets) run live (now list) tally ⌝ }
+    requires { ⌜ BranchAsks k (now points) (now order) (now normals) (now offsets) run rows (now live) count (now list) tally ⌝ }
     ensures { λ r. ⌜ BranchDoes k (now (points .entry)) (now (order .entry)) (now (normals .entry)) (now (offsets .entry))
-        run (now (list .entry)) (now (list .exit)) tally r ⌝ }
+        run rows (now (list .entry)) (now (list .exit)) tally r ⌝ }
 {
     let a = run.start;
     let c = run.length;
@@ -86,8 +76,8 @@ pub fn branch(
         return tally;
     }
     let h = offsets.len();
-    let rows = run.rows;
-    let judged = judge(k, h, normals, offsets, rows, live);
+    let mut next = [0u8; 32];
+    let judged = judge(k, h, normals, offsets, rows, live, count, &mut next);
     let e = a + c;
     let mut settled = tally;
     if judged.below {
@@ -96,13 +86,24 @@ pub fn branch(
         settled.outside += c;
         return settled;
     }
-    let next = judged.live;
-    if next.count == 0 {
+    if judged.left == 0 {
         copy_inside(&order[a..e], list, tally.inside);
         settled.inside += c;
         return settled;
     }
-    node(k, points, order, normals, offsets, run, next, list, tally)
+    node(
+        k,
+        points,
+        order,
+        normals,
+        offsets,
+        run,
+        rows,
+        &next,
+        judged.left,
+        list,
+        tally,
+    )
 }
 
 // The part for the node of an open branch: one visit, the left branch, its own number by its own test, the right branch.
@@ -113,29 +114,57 @@ fn node(
     normals: &[i32],
     offsets: &[i64],
     run: Run,
-    live: Live,
+    rows: CornerRows,
+    live: &[u8; 32],
+    count: usize,
     list: &mut [u32],
     tally: Tally,
 ) -> Tally
-    requires { ⌜ BranchAsks k (now points) (now order) (now normals) (now offsets) run live (now list) tally ⌝ }
+    requires { ⌜ BranchAsks k (now points) (now order) (now normals) (now offsets) run rows (now live) count (now list) tally ⌝ }
     requires { ⌜ 0 < run .length ⌝ }
-    requires { ⌜ isOpen (regionOf k (now normals) (now offsets)) (boxOf (run .rows)) ≡ true ⌝ }
+    requires { ⌜ isOpen (regionOf k (now normals) (now offsets)) (boxOf rows) ≡ true ⌝ }
     ensures { λ r. ⌜ BranchDoes k (now (points .entry)) (now (order .entry)) (now (normals .entry)) (now (offsets .entry))
-        run (now (list .entry)) (now (list .exit)) tally r ⌝ }
+        run rows (now (list .entry)) (now (list .exit)) tally r ⌝ }
 {
     let s = run.depth % k;
     let middle = run.start + run.length / 2;
     let p = order[middle];
     let x = coordinate(k, points, p, s);
-    let left = left_run(run, s, x);
-    let right = right_run(run, s, x);
+    let left = left_run(run);
+    let right = right_run(run);
+    let left_rows = left_box(rows, s, x);
+    let right_rows = right_box(rows, s, x);
     let mut start = tally;
     start.visits += 1;
-    let first = branch(k, points, order, normals, offsets, left, live, list, start);
+    let first = branch(
+        k,
+        points,
+        order,
+        normals,
+        offsets,
+        left,
+        left_rows,
+        live,
+        count,
+        list,
+        start,
+    );
     let h = offsets.len();
-    let inside = inside_live(k, h, points, normals, offsets, p as usize, live);
+    let inside = inside_live(k, h, points, normals, offsets, p as usize, live, count);
     let own = place(inside, p, list, first);
-    branch(k, points, order, normals, offsets, right, live, list, own)
+    branch(
+        k,
+        points,
+        order,
+        normals,
+        offsets,
+        right,
+        right_rows,
+        live,
+        count,
+        list,
+        own,
+    )
 }
 
 // Writes one number to the list that its test says.

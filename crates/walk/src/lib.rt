@@ -59,8 +59,20 @@ pub fn walk(
         start: 0,
         length: slots,
         depth: 0,
-        rows: rows,
     };
-    let live = all_faces(offsets.len());
-    branch(k, points, order, normals, offsets, root, live, list, none)
+    let h = offsets.len();
+    let live = all_faces(h);
+    branch(
+        k,
+        points,
+        order,
+        normals,
+        offsets,
+        root,
+        rows,
+        &live,
+        h,
+        list,
+        none,
+    )
 }

@@ -35,12 +35,12 @@ all-faces-requires c κs = search needs
 
 branch-requires : tie.Need-branch-requires
 branch-requires c κs =
-    let s = c .before .before .before .before .before .before in
+    let s = c .before .before .before .before .before .before .before in
     let p = s .pre in
-    let z = c .before .before .before .if1 .left in
+    let z = c .before .before .before .before .if1 .left in
     let some : 0 < length (s .args .order .now) = omega arith in (
-      walkable-root (p .0) (p .1 .0) (p .1 .1 .0) (p .1 .1 .1) some (root (c .before .before)),
-      c .before .all-faces .ensures .lives _ _ refl,
+      walkable-root (p .0) (p .1 .0) (p .1 .1 .0) (p .1 .1 .1) some (root (c .before .before .before)),
+      c .before .before .all-faces .ensures .lives _ _ refl,
     )
 
 same-length : tie.Need-same-length
@@ -48,8 +48,8 @@ same-length c = search needs
 
 returns-2 : tie.Need-returns-2
 returns-2 c =
-    let s = c .before .before .before .before .before .before .before .before .before in
-    listed (root (c .before .before .before .before .before)) (s .pre .1 .1 .0) (c .before .before .branch .ensures)
+    let s = c .before .before .before .before .before .before .before .before .before .before in
+    listed (root (c .before .before .before .before .before .before)) (s .pre .1 .1 .0) (c .before .before .branch .ensures)
 
 pub walk-spec : {M : Type 1} → statement M
 walk-spec =

@@ -4,7 +4,6 @@ use mathlib.Core.Logic.{⊎-elim}
 use Prim.Native.Nat.{_-_}
 use native.Mathlib.Omega.{arith}
 use lib.ListN.{getD}
-use borrow.Author.Needs.{needs}
 use Rattle.terms.specs.Box.{boxOf}
 use Rattle.terms.specs.Region.{region}
 use Rattle.theory.specs.Flags.{not-true, not-false}
@@ -14,28 +13,28 @@ use Rattle.region.proofs.judge.judge.Statement.{statement}
 use Rattle.region.proofs.judge.judge.Tie as tie
 
 abbrev Inv-loop : tie.InvT-loop
-Inv-loop k h normals offsets rows live next₀ left₀ count t₀ next left t =
-    Judging (region k h normals offsets) (boxOf rows) (live .face) (live .count) next left t
+Inv-loop k h normals offsets rows live count next₀ left₀ t₀ next left t =
+    Judging (region k h normals offsets) (boxOf rows) live count next left t
 
 abbrev μ-loop : tie.MeasureT-loop
-μ-loop k h normals offsets rows live next₀ left₀ count t₀ next left t = live .count - t
+μ-loop k h normals offsets rows live count next₀ left₀ t₀ next left t = count - t
 
 loop-holds : tie.Need-loop-holds Inv-loop μ-loop
-loop-holds c = judging-none _ _ _ _ _ refl
+loop-holds c = judging-none _ _ _ _ _ (c .pre .1 .1 .1)
 
 element-copy-out-f : tie.Need-element-copy-out-f Inv-loop μ-loop
 element-copy-out-f c = omega arith
 
-cast-i : tie.Need-cast-i Inv-loop μ-loop
-cast-i c = search needs
-
 -- The face at hand is one of the faces.
 face-known : (c : tie.In-loop Inv-loop μ-loop)
     → HasFace (c .before .before .args .k) (c .before .before .args .h) (c .before .before .args .normals .now) (c .before .before .args .offsets .now)
-    (getD (c .before .before .args .t6 .face) (c .before .loop .t) 0)
+    (getD (c .before .before .args .live .now) (c .before .loop .t) 0)
 face-known c =
     let s = c .before .before in
-    record { faces = s .pre .0; known = s .pre .1 .1 .live .each (c .before .loop .t) (c .loop-test .taken) }
+    record { faces = s .pre .0; known = s .pre .1 .1 .0 .live .each (c .before .loop .t) (c .loop-test .taken) }
+
+cast-i : tie.Need-cast-i Inv-loop μ-loop
+cast-i c = omega (arith, face-known (c .before) .known, c .before .before .before .pre .0 .tested)
 
 wholly-above-requires : tie.Need-wholly-above-requires Inv-loop μ-loop
 wholly-above-requires c κs = (face-known (c .before), c .before .before .before .pre .1 .0)
@@ -46,10 +45,10 @@ wholly-below-requires c κs = (face-known (c .before .before .before), c .before
 returns : tie.Need-returns Inv-loop μ-loop
 returns c =
     let b = c .before .before .before .before .before in
-    judging-cut (b .before .loop .inv) (b .before .before .pre .1 .1) (b .loop-test .taken) (c .before .wholly-below .ensures) (c .if2 .taken) _ _
+    judging-cut (b .before .loop .inv) (b .before .before .pre .1 .1 .0) (b .loop-test .taken) (c .before .wholly-below .ensures) (c .if2 .taken) _ _
 
-array-write-next : tie.Need-array-write-next Inv-loop μ-loop
-array-write-next c = omega arith
+element-write-next : tie.Need-element-write-next Inv-loop μ-loop
+element-write-next c = omega arith
 
 add-left : tie.Need-add-left Inv-loop μ-loop
 add-left c = omega arith
@@ -64,7 +63,7 @@ loop-again : tie.Need-loop-again Inv-loop μ-loop
 loop-again c =
     let b = c .before .before .before in
     let w = b .before .loop .inv in
-    let v = b .before .before .pre .1 .1 in
+    let v = b .before .before .pre .1 .1 .0 in
     let says = c .before .wholly-above .ensures in
     let above = c .before .wholly-above .result in
     ⊎-elim
@@ -73,7 +72,7 @@ loop-again c =
     (c .if1 .came)
 
 returns-2 : tie.Need-returns-2 Inv-loop μ-loop
-returns-2 c = judging-done (c .before .loop .inv) (c .before .before .pre .1 .1) (c .loop-test .left)
+returns-2 c = judging-done (c .before .loop .inv) (c .before .before .pre .1 .1 .0) (c .loop-test .left)
 
 pub judge-spec : {M : Type 1} → statement M
 judge-spec =
@@ -87,7 +86,7 @@ judge-spec =
     wholly-above-requires
     wholly-below-requires
     returns
-    array-write-next
+    element-write-next
     add-left
     add-t
     loop-less

@@ -15,11 +15,11 @@ use Rattle.region.proofs.live.inside_live.Statement.{statement}
 use Rattle.region.proofs.live.inside_live.Tie as tie
 
 abbrev Inv-loop : tie.InvT-loop
-Inv-loop k h points normals offsets p live x count t₀ t =
-    (t ≤ live .count) × ((s : ℕ) → s < t → above (region k h normals offsets) (getD (live .face) s 0) (coord k points p) ≡ true)
+Inv-loop k h points normals offsets p live count x t₀ t =
+    (t ≤ count) × ((s : ℕ) → s < t → above (region k h normals offsets) (getD live s 0) (coord k points p) ≡ true)
 
 abbrev μ-loop : tie.MeasureT-loop
-μ-loop k h points normals offsets p live x count t₀ t = live .count - t
+μ-loop k h points normals offsets p live count x t₀ t = count - t
 
 point-at-requires : tie.Need-point-at-requires Inv-loop μ-loop
 point-at-requires c κs = search needs
@@ -31,7 +31,9 @@ element-copy-out-point-above : tie.Need-element-copy-out-point-above Inv-loop μ
 element-copy-out-point-above c = omega arith
 
 cast-point-above : tie.Need-cast-point-above Inv-loop μ-loop
-cast-point-above c = search needs
+cast-point-above c =
+    let s = c .before .before .before .before in
+    omega (arith, s .pre .1 .1 .each (c .before .before .loop .t) (c .before .loop-test .taken), s .pre .0 .tested)
 
 point-above-requires : tie.Need-point-above-requires Inv-loop μ-loop
 point-above-requires c κs =
@@ -46,7 +48,7 @@ returns c =
     let w = b .before .before .point-at .ensures in
     let a = b .before .before .before .args in
     let g = region (a .k) (a .h) (a .normals .now) (a .offsets .now) in
-    let i = getD (a .t7 .face) (b .before .loop .t) 0 in
+    let i = getD (a .live .now) (b .before .loop .t) 0 in
     let no = not-true (c .before .point-above .result) (c .if1 .taken) in
     live-outside (b .before .loop .t) (b .loop-test .taken) (point-told g w i (c .before .point-above .ensures) no)
 
@@ -62,7 +64,7 @@ loop-again c =
     let w = b .before .before .point-at .ensures in
     let a = b .before .before .before .args in
     let g = region (a .k) (a .h) (a .normals .now) (a .offsets .now) in
-    let i = getD (a .t7 .face) (b .before .loop .t) 0 in
+    let i = getD (a .live .now) (b .before .loop .t) 0 in
     let yes = not-false (c .before .point-above .result) (c .if1 .left) in
     (omega arith, below-more _ (b .before .loop .t) (b .before .loop .inv .1) (point-told g w i (c .before .point-above .ensures) yes))
 

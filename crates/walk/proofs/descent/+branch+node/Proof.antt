@@ -1,5 +1,6 @@
 -- The node part and the branch part, which call each other: the measure is twice the run's length, and one more for the branch part.
 -- A branch that is judged settled goes to a copier; an open one to its node, whose two branches' boxes and live faces nest in its own.
+use mathlib.Core.Path.{_≡_, refl}
 use Prim.Native.Nat.{ℕ, _<_, _+_, _-_, _/_, _%_}
 use native.Mathlib.Omega.{arith}
 use borrow.Author.Needs.{sfits-of}
@@ -13,7 +14,7 @@ use Rattle.region.specs.Judged.{judged-above, judged-open}
 use Rattle.walk.specs.Slots.{lent-length, run-length}
 use Rattle.walk.specs.Walk.{ownOf, ready-own, walked-empty, walked-inside, walked-outside, walked-node, walked-numbers}
 use Rattle.walk.specs.Descent.{own-point, axis-below, axis-small, walkable-left, walkable-right}
-use Rattle.walk.specs.Descent.{Child, child-walkable, child-lives, child-walked}
+use Rattle.walk.specs.Descent.{child-walkable, child-lives, child-walked}
 use borrow.Fn.Kinds.{In}
 use borrow.Fn.PlainCycle.{Measures, is, falls, and}
 use Rattle.walk.proofs.descent.branch.Reads as branch
@@ -24,6 +25,8 @@ use Rattle.walk.proofs.descent.node.Kinds as node-kinds
 use Rattle.walk.proofs.descent.+branch+node.Lts-node as node-lts
 use Rattle.walk.proofs.descent.left_run.Reads as left-run
 use Rattle.walk.proofs.descent.right_run.Reads as right-run
+use Rattle.region.proofs.boxes.left_box.Reads as left-box
+use Rattle.region.proofs.boxes.right_box.Reads as right-box
 use Rattle.region.proofs.judge.judge.Reads as judge
 use Rattle.region.proofs.live.inside_live.Reads as inside-live
 use Rattle.walk.proofs.copiers.copy_inside.Reads as copy-inside
@@ -34,24 +37,24 @@ use Rattle.walk.proofs.descent.+branch+node.{statement}
 use Rattle.walk.proofs.descent.+branch+node.Tie.{close}
 
 -- Twice the run's length.
-abbrev μ-node : Measures 5 node-kinds.ps ℕ
+abbrev μ-node : Measures 6 node-kinds.ps ℕ
 μ-node κs a = a .1 .1 .1 .1 .1 .0 .length + a .1 .1 .1 .1 .1 .0 .length
 
-abbrev μ-branch : Measures 5 branch-kinds.ps ℕ
+abbrev μ-branch : Measures 6 branch-kinds.ps ℕ
 μ-branch κs a = a .1 .1 .1 .1 .1 .0 .length + a .1 .1 .1 .1 .1 .0 .length + 1
 
 module _ (t : ℕ) where
-  abbrev branch-at : In 5 branch-kinds.ps
-  branch-at = and 5 branch-kinds.ps (is 5 branch-kinds.ps μ-branch t) branch.Pre
+  abbrev branch-at : In 6 branch-kinds.ps
+  branch-at = and 6 branch-kinds.ps (is 6 branch-kinds.ps μ-branch t) branch.Pre
 
-  abbrev branch-below : In 5 branch-kinds.ps
-  branch-below = and 5 branch-kinds.ps (falls 5 branch-kinds.ps _<_ μ-branch t) branch.Pre
+  abbrev branch-below : In 6 branch-kinds.ps
+  branch-below = and 6 branch-kinds.ps (falls 6 branch-kinds.ps _<_ μ-branch t) branch.Pre
 
-  abbrev node-at : In 5 node-kinds.ps
-  node-at = and 5 node-kinds.ps (is 5 node-kinds.ps μ-node t) node.Pre
+  abbrev node-at : In 6 node-kinds.ps
+  node-at = and 6 node-kinds.ps (is 6 node-kinds.ps μ-node t) node.Pre
 
-  abbrev node-below : In 5 node-kinds.ps
-  node-below = and 5 node-kinds.ps (falls 5 node-kinds.ps _<_ μ-node t) node.Pre
+  abbrev node-below : In 6 node-kinds.ps
+  node-below = and 6 node-kinds.ps (falls 6 node-kinds.ps _<_ μ-node t) node.Pre
 
   -- What each part's callees ask and tell.
   abbrev branch-calls : branch-lts.Claims
@@ -74,6 +77,10 @@ module _ (t : ℕ) where
     left-run.Learnt,
     right-run.Asked,
     right-run.Learnt,
+    left-box.Asked,
+    left-box.Learnt,
+    right-box.Asked,
+    right-box.Learnt,
     branch-below,
     branch.Post,
     inside-live.Asked,
@@ -88,7 +95,7 @@ module _ (t : ℕ) where
   branch-judge-requires : branch-lts.Need-judge-requires branch-calls branch-at branch.Post
   branch-judge-requires c κs =
       let p = c .before .before .before .before .pre .1 in
-      (p .0 .faces, (p .0 .ranges, p .1))
+      (p .0 .faces, (p .0 .ranges, (p .1, refl)))
 
   branch-add-e : branch-lts.Need-add-e branch-calls branch-at branch.Post
   branch-add-e c = omega arith
@@ -141,7 +148,7 @@ module _ (t : ℕ) where
 
   branch-copy-inside-requires : branch-lts.Need-copy-inside-requires branch-calls branch-at branch.Post
   branch-copy-inside-requires c κs =
-      let s = c .before .before .before .before .before .before .before .before .before .before .before in
+      let s = c .before .before .before .before .before .before .before .before .before .before in
       let r = s .pre .1 .0 .ready in
       let l = lent-length (s .args .order .now) (s .args .run .start) (s .args .run .length) (r .fits) in
       omega (arith, r .room, r .size)
@@ -151,9 +158,9 @@ module _ (t : ℕ) where
 
   branch-returns-3 : branch-lts.Need-returns-3 branch-calls branch-at branch.Post
   branch-returns-3 c =
-      let j = c .before .before .before .before .before .before .before .before .before .before .judge .ensures in
-      let r = c .before .before .before .before .before .before .before .before .before .before .before .before .before .before .before .pre .1 .0 .ready in
-      let above = judged-above j (c .before .before .before .before .before .before .before .before .before .if2 .left) (c .before .before .before .before .before .before .if3 .taken) in
+      let j = c .before .before .before .before .before .before .before .before .before .judge .ensures in
+      let r = c .before .before .before .before .before .before .before .before .before .before .before .before .before .before .pre .1 .0 .ready in
+      let above = judged-above j (c .before .before .before .before .before .before .before .before .if2 .left) (c .before .before .before .before .before .before .if3 .taken) in
       walked-inside r above (c .before .before .before .copy-inside .ensures)
 
   branch-same-length-2 : branch-lts.Need-same-length-2 branch-calls branch-at branch.Post
@@ -166,9 +173,9 @@ module _ (t : ℕ) where
       let j = c .before .before .before .before .before .judge in
       let f = c .before .before .before .before .if2 .left in
       let z = c .before .before .before .before .before .before .before .if1 .left in
-      let n = c .before .if3 .left in
+      let n = c .before .before .if3 .left in
       let some : 0 < s .args .run .length = omega arith in
-      let left : 0 < j .result .live .count = omega arith in
+      let left : 0 < j .result .left = omega arith in
       (omega (arith, s .pre .0), ((w, j .ensures .lives f), (some, judged-open (j .ensures) f (ready-own (w .ready) some) left)))
 
   branch-same-length-3 : branch-lts.Need-same-length-3 branch-calls branch-at branch.Post
@@ -177,26 +184,20 @@ module _ (t : ℕ) where
   branch-returns-4 : branch-lts.Need-returns-4 branch-calls branch-at branch.Post
   branch-returns-4 c = c .before .before .node .ensures
 
-  -- The two branches that the node part goes on to.
-  left-is : (c : node-lts.After-left-run node-calls node-at node.Post) →
-      let a = c .before .before .before .before .before .before .before .before .args in
-      let r = a .run in
-      let p = ownOf (a .order .now) (r .start) (r .length) in
-      let child = c .left-run .result in
-      Child (r .start) (r .length / 2) (r .depth) (leftBox (boxOf (r .rows)) (r .depth % a .k) (coord (a .k) (a .points .now) p (r .depth % a .k)))
-      (child .start) (child .length) (child .depth) (boxOf (child .rows))
-  left-is c = rw (toZ-ofZ {w = w32} (sfits-of (c .before .coordinate .ok)), c .before .coordinate .ensures) at (c .left-run .ensures)
+  -- The boxes of the two branches that the node part goes on to.
+  left-in : (c : node-lts.After-left-box node-calls node-at node.Post) →
+      let a = c .before .before .before .before .before .before .before .before .before .before .args in
+      let s = a .run .depth % a .k in
+      let x = coord (a .k) (a .points .now) (ownOf (a .order .now) (a .run .start) (a .run .length)) s in
+      boxOf (c .left-box .result) ≡ leftBox (boxOf (a .rows)) s x
+  left-in c = rw (toZ-ofZ {w = w32} (sfits-of (c .before .before .before .coordinate .ok)), c .before .before .before .coordinate .ensures) at (c .left-box .ensures)
 
-  right-is : (c : node-lts.After-right-run node-calls node-at node.Post) →
-      let a = c .before .before .before .before .before .before .before .before .before .args in
-      let r = a .run in
-      let p = ownOf (a .order .now) (r .start) (r .length) in
-      let child = c .right-run .result in
-      Child (r .start + r .length / 2 + 1) (r .length - r .length / 2 - 1) (r .depth)
-      (rightBox (boxOf (r .rows)) (r .depth % a .k) (coord (a .k) (a .points .now) p (r .depth % a .k)))
-      (child .start) (child .length) (child .depth) (boxOf (child .rows))
-  right-is c =
-      rw (toZ-ofZ {w = w32} (sfits-of (c .before .before .coordinate .ok)), c .before .before .coordinate .ensures) at (c .right-run .ensures)
+  right-in : (c : node-lts.After-right-box node-calls node-at node.Post) →
+      let a = c .before .before .before .before .before .before .before .before .before .before .before .args in
+      let s = a .run .depth % a .k in
+      let x = coord (a .k) (a .points .now) (ownOf (a .order .now) (a .run .start) (a .run .length)) s in
+      boxOf (c .right-box .result) ≡ rightBox (boxOf (a .rows)) s x
+  right-in c = rw (toZ-ofZ {w = w32} (sfits-of (c .before .before .before .before .coordinate .ok)), c .before .before .before .before .coordinate .ensures) at (c .right-box .ensures)
 
   node-rem-s : node-lts.Need-rem-s node-calls node-at node.Post
   node-rem-s c = let w = c .before .before .before .pre .1 .0 .0 in omega (arith, w .some)
@@ -223,7 +224,7 @@ module _ (t : ℕ) where
       let w = s .pre .1 .0 .0 in
       let some = s .pre .1 .1 .0 in
       let r = w .ready in
-      (axis-small w some, omega arith)
+      omega arith
 
   node-right-run-requires : node-lts.Need-right-run-requires node-calls node-at node.Post
   node-right-run-requires c κs =
@@ -231,11 +232,25 @@ module _ (t : ℕ) where
       let w = s .pre .1 .0 .0 in
       let some = s .pre .1 .1 .0 in
       let r = w .ready in
-      (axis-small w some, (omega arith, (some, omega arith)))
+      (omega arith, (some, omega arith))
+
+  node-left-box-requires : node-lts.Need-left-box-requires node-calls node-at node.Post
+  node-left-box-requires c κs =
+      let s = c .before .before .before .before .before .before .before .before .before in
+      let w = s .pre .1 .0 .0 in
+      let some = s .pre .1 .1 .0 in
+      axis-small w some
+
+  node-right-box-requires : node-lts.Need-right-box-requires node-calls node-at node.Post
+  node-right-box-requires c κs =
+      let s = c .before .before .before .before .before .before .before .before .before .before in
+      let w = s .pre .1 .0 .0 in
+      let some = s .pre .1 .1 .0 in
+      axis-small w some
 
   node-add-start : node-lts.Need-add-start node-calls node-at node.Post
   node-add-start c =
-      let s = c .before .before .before .before .before .before .before .before .before .before in
+      let s = c .before .before .before .before .before .before .before .before .before .before .before .before in
       let w = s .pre .1 .0 .0 in
       let some = s .pre .1 .1 .0 in
       let r = w .ready in
@@ -243,24 +258,25 @@ module _ (t : ℕ) where
 
   node-branch-requires : node-lts.Need-branch-requires node-calls node-at node.Post
   node-branch-requires c κs =
-      let s = c .before .before .before .before .before .before .before .before .before .before .before in
+      let s = c .before .before .before .before .before .before .before .before .before .before .before .before .before in
       let w = s .pre .1 .0 .0 in
       let lives = s .pre .1 .0 .1 in
       let some = s .pre .1 .1 .0 in
-      let l = left-is (c .before .before .before) in
+      let l = c .before .before .before .before .before .left-run .ensures in
+      let b = left-in (c .before .before .before) in
       let own = ready-own (w .ready) some in (
         omega (arith, s .pre .0, l .slots),
-        (child-walkable l (walkable-left w some), child-lives l (lives-nested (left-nested own _) lives)),
+        (child-walkable l b (walkable-left w some), child-lives l b (lives-nested (left-nested own _) lives)),
       )
 
   node-cast-inside-live : node-lts.Need-cast-inside-live node-calls node-at node.Post
   node-cast-inside-live c =
-      let r = c .before .before .before .before .before .before .before .before .before .before .before .before .before .before .args .run in
-      omega (arith, c .before .before .before .before .before .before .before .before .shared-slice-known2 .given (r .start + r .length / 2))
+      let r = c .before .before .before .before .before .before .before .before .before .before .before .before .before .before .before .before .args .run in
+      omega (arith, c .before .before .before .before .before .before .before .before .before .before .shared-slice-known2 .given (r .start + r .length / 2))
 
   node-inside-live-requires : node-lts.Need-inside-live-requires node-calls node-at node.Post
   node-inside-live-requires c κs =
-      let s = c .before .before .before .before .before .before .before .before .before .before .before .before .before .before in
+      let s = c .before .before .before .before .before .before .before .before .before .before .before .before .before .before .before .before in
       let w = s .pre .1 .0 .0 in
       let lives = s .pre .1 .0 .1 in
       let some = s .pre .1 .1 .0 in
@@ -268,43 +284,41 @@ module _ (t : ℕ) where
 
   node-place-requires : node-lts.Need-place-requires node-calls node-at node.Post
   node-place-requires c κs =
-      let s = c .before .before .before .before .before .before .before .before .before .before .before .before .before .before .before .before in
+      let s = c .before .before .before .before .before .before .before .before .before .before .before .before .before .before .before .before .before .before in
       let w = s .pre .1 .0 .0 in
       let some = s .pre .1 .1 .0 in
-      let l = left-is (c .before .before .before .before .before .before .before .before) in
-      let v = child-walked l (s .args .order .now) (c .before .before .before .before .branch .ensures) in
+      let v = child-walked (c .before .before .before .before .before .before .before .before .before .before .left-run .ensures) (left-in (c .before .before .before .before .before .before .before .before)) (s .args .order .now) (c .before .before .before .before .branch .ensures) in
       let half = run-length (s .args .order .now) (s .args .run .start) (s .args .run .length / 2) (omega arith) in
       omega (arith, walked-numbers v, v .filled .size)
 
   node-branch-requires-2 : node-lts.Need-branch-requires-2 node-calls node-at node.Post
   node-branch-requires-2 c κs =
-      let s = c .before .before .before .before .before .before .before .before .before .before .before .before .before .before .before .before .before .before .before .before in
+      let s = c .before .before .before .before .before .before .before .before .before .before .before .before .before .before .before .before .before .before .before .before .before .before in
       let w = s .pre .1 .0 .0 in
       let lives = s .pre .1 .0 .1 in
       let some = s .pre .1 .1 .0 in
-      let l = left-is (c .before .before .before .before .before .before .before .before .before .before .before .before) in
-      let v = child-walked l (s .args .order .now) (c .before .before .before .before .before .before .before .before .branch .ensures) in
+      let v = child-walked (c .before .before .before .before .before .before .before .before .before .before .before .before .before .before .left-run .ensures) (left-in (c .before .before .before .before .before .before .before .before .before .before .before .before)) (s .args .order .now) (c .before .before .before .before .before .before .before .before .branch .ensures) in
       let own = ready-own (w .ready) some in
       let told = c .before .before .before .before .before .inside-live .ensures .tells lives own in
       let f = rw (told, v .filled .size, w .ready .size) at (c .before .before .before .place .ensures) in
-      let r = right-is (c .before .before .before .before .before .before .before .before .before .before .before) in (
+      let r = c .before .before .before .before .before .before .before .before .before .before .before .before .before .right-run .ensures in
+      let b = right-in (c .before .before .before .before .before .before .before .before .before .before .before) in (
         omega (arith, s .pre .0, r .slots),
-        (child-walkable r (walkable-right w some v f), child-lives r (lives-nested (right-nested own _) lives)),
+        (child-walkable r b (walkable-right w some v f), child-lives r b (lives-nested (right-nested own _) lives)),
       )
 
   node-returns : node-lts.Need-returns node-calls node-at node.Post
   node-returns c =
-      let s = c .before .before .before .before .before .before .before .before .before .before .before .before .before .before .before .before .before .before .before .before .before .before .before in
+      let s = c .before .before .before .before .before .before .before .before .before .before .before .before .before .before .before .before .before .before .before .before .before .before .before .before .before in
       let w = s .pre .1 .0 .0 in
       let lives = s .pre .1 .0 .1 in
       let some = s .pre .1 .1 .0 in
-      let l = left-is (c .before .before .before .before .before .before .before .before .before .before .before .before .before .before .before) in
-      let v = child-walked l (s .args .order .now) (c .before .before .before .before .before .before .before .before .before .before .before .branch .ensures) in
+      let v = child-walked (c .before .before .before .before .before .before .before .before .before .before .before .before .before .before .before .before .before .left-run .ensures) (left-in (c .before .before .before .before .before .before .before .before .before .before .before .before .before .before .before)) (s .args .order .now) (c .before .before .before .before .before .before .before .before .before .before .before .branch .ensures) in
       let own = ready-own (w .ready) some in
       let told = c .before .before .before .before .before .before .before .before .inside-live .ensures .tells lives own in
       let f = rw (told, v .filled .size, w .ready .size) at (c .before .before .before .before .before .before .place .ensures) in
-      let r = right-is (c .before .before .before .before .before .before .before .before .before .before .before .before .before .before) in
-      walked-node (w .ready) some v f (s .pre .1 .1 .1) (child-walked r (s .args .order .now) (c .before .before .branch2 .ensures))
+      let last = child-walked (c .before .before .before .before .before .before .before .before .before .before .before .before .before .before .before .before .right-run .ensures) (right-in (c .before .before .before .before .before .before .before .before .before .before .before .before .before .before)) (s .args .order .now) (c .before .before .branch2 .ensures) in
+      walked-node (w .ready) some v f (s .pre .1 .1 .1) last
 
   node-same-length : node-lts.Need-same-length node-calls node-at node.Post
   node-same-length c = node-returns c .filled .size
@@ -343,6 +357,8 @@ pub +branch+node-spec : {M : Type 1} → statement M
     (node-coordinate-requires t)
     (node-left-run-requires t)
     (node-right-run-requires t)
+    (node-left-box-requires t)
+    (node-right-box-requires t)
     (node-add-start t)
     (node-branch-requires t)
     (node-cast-inside-live t)
