@@ -4,6 +4,7 @@ pub mod Parted
 pub mod LeastFirst
 pub mod Chosen
 pub mod WrittenInPlace
+pub mod Filled
 pub mod Placed
 pub mod Arranged
 pub mod Allowed

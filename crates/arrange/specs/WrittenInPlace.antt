@@ -1,4 +1,4 @@
--- A pass that writes a value in each place, one after the other: each number's own value under a function, or the rising numbers.
+-- A pass that writes a value in each place, one after the other: each number's own value under a function.
 use mathlib.Core.Path.{_≡_, refl, sym, ap, _∙_}
 use mathlib.Core.Logic.{_⊎_, inl, inr}
 use mathlib.Core.List.{List, [], _∷_, map}
@@ -7,10 +7,6 @@ use native.Mathlib.Nat.{not-suc-le-zero, le-of-suc-le-suc}
 use native.Mathlib.Omega.{arith}
 use lib.ListN.{length, getD, set, length-set, length-map}
 use lib.Seq.{ext-getD, getD-set-same, getD-set-other}
-use Rattle.terms.specs.Tests.{rising}
-use Rattle.terms.specs.Points.{below}
-use Rattle.terms.specs.Tree.{members}
-use Rattle.theory.specs.RisingNumbers.{length-rising, rising-at, members-shelf}
 use Rattle.arrange.specs.Rearranged.{below-or-from}
 
 -- The pass has come to the place t: the places before it hold their values, the others are as they were.
@@ -40,7 +36,7 @@ written-all {ys = ys} zs w h n at =
     let s = w .size in
     ext-getD 0 ys zs (omega arith) (λ i l. w .done i (omega arith) ∙ sym (at i (omega arith)))
 
--- ---- the values of the numbers under a function
+-- The values of the numbers under a function.
 pub map-at : (f : ℕ → ℕ) (xs : List ℕ) (i : ℕ) → i < length xs → getD (map f xs) i 0 ≡ f (getD xs i 0)
 map-at f [] i h = absurd (not-suc-le-zero h)
 map-at f (x ∷ xs) zero h = refl
@@ -56,9 +52,3 @@ mapped-turn f {t = t} w h e = written-turn w h (e ∙ ap f (w .later t (omega ar
 
 pub mapped-all : (f : ℕ → ℕ) {xs ys : List ℕ} {t : ℕ} → MappedTo f xs ys t → length ys ≤ t → ys ≡ map f xs
 mapped-all f {xs} w h = written-all (map f xs) w h (length-map xs f) (map-at f xs)
-
--- ---- the rising numbers
-pub rising-all : {xs ys : List ℕ} {t : ℕ} → WrittenTo (λ i. i) xs ys t → length ys ≤ t → ys ≡ members (below (length xs)) (length xs)
-rising-all {xs} w h =
-    let n : ℕ = length xs in
-    rw members-shelf (written-all (rising 0 n) w h (length-rising 0 n) (λ i l. rising-at 0 n i 0 l ∙ omega arith))

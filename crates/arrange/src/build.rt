@@ -9,6 +9,7 @@ ghost use Rattle.theory.specs.Tested.{TestedPoints};
 ghost use Rattle.arrange.specs.Placed.{Placed};
 ghost use Rattle.arrange.specs.Arranged.{Arrangeable, Arranged};
 use crate::axis::next_axis;
+use crate::belongs::belongs;
 use crate::choose::choose;
 use crate::key::write_keys;
 use crate::key::write_numbers;
@@ -35,25 +36,29 @@ fn arrange(points: &[i32], k: usize, s: usize, run: &mut [u32])
         return;
     }
     let m = c / 2;
+    let r = m + 1;
     place_node(points, k, s, run, m);
     if c < 4 {
         return;
     }
     let next = next_axis(k, s);
     arrange(points, k, next, &mut run[..m]);
-    let r = m + 1;
     arrange(points, k, next, &mut run[r..]);
 }
 
-// Fills the order with the numbers that belong, rising.
-fn fill(order: &mut [u32])
-    requires { ⌜ length (now order) ≤ 65535 ⌝ }
-    ensures { λ _. ⌜ now (order .exit) ≡ members (below (length (now (order .entry)))) (length (now (order .entry))) ⌝ }
+// Fills the order, which has a slot for each, with the numbers below m that belong, rising.
+fn fill(m: usize, order: &mut [u32])
+    requires { ⌜ m ≤ 65535 ⌝ }
+    requires { ⌜ length (now order) ≡ length (members (below m) m) ⌝ }
+    ensures { λ _. ⌜ now (order .exit) ≡ members (below m) m ⌝ }
 {
-    let mut i: usize = 0;
-    while i < order.len() {
-        order[i] = i as u32;
-        i += 1;
+    let mut at: usize = 0;
+    for n in 0..m {
+        let p = n as u32;
+        if belongs(m, p) {
+            order[at] = p;
+            at += 1;
+        }
     }
 }
 
@@ -63,6 +68,6 @@ pub fn build(k: usize, m: usize, points: &[i32], order: &mut [u32])
     requires { ⌜ length (now order) ≡ m ⌝ }
     ensures { λ _. ⌜ isTree k (coord k (now (points .entry))) (below m) m (now (order .exit)) ≡ true ⌝ }
 {
-    fill(order);
+    fill(m, order);
     arrange(points, k, 0, order);
 }

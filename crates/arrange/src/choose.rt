@@ -1,6 +1,7 @@
 // Choosing in place: the number that belongs at a place of a run, with no greater one before it and no smaller one after it.
 // A part of the run that holds it is narrowed by passes; what the pivots are decides only how soon it is small. A pivot comes from a
-// sample, and after a pass that hardly narrowed the part it is counted out exactly, so that no input takes many passes.
+// sample, and after a pass that hardly narrowed the part, or after 31 of them, it is counted out exactly, which takes 32 passes at most and
+// leaves the number in its place with one more. So no input takes more than 64 passes.
 ghost use Prim.Native.Nat.{_+_, _*_, _<_, _≤_};
 ghost use lib.ListN.{length};
 ghost use Rattle.arrange.specs.Parted.{Parted};
@@ -167,8 +168,9 @@ pub fn choose(run: &mut [u32], m: usize)
     let mut e: usize = run.len();
     let mut lo: u32 = 0;
     let mut top: u32 = 0xffff_ffff;
+    let mut pass: u32 = 0;
     let mut stuck = false;
-    while 8 < e - a && a < m && lo < top {
+    while 8 < e - a && a < m && lo < top && pass < 32 {
         let size = e - a;
         let pivot = next_pivot(&run[a..e], m - a, lo, top, stuck);
         let r = partition(run, a, e, pivot);
@@ -179,7 +181,8 @@ pub fn choose(run: &mut [u32], m: usize)
             a = r;
             lo = pivot;
         }
-        stuck = size - size / 8 < e - a;
+        pass += 1;
+        stuck = (pass == 31) | (size - size / 8 < e - a);
     }
     finish(run, a, e, m);
 }

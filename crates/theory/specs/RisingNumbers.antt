@@ -1,20 +1,20 @@
 -- The rising numbers a, a + 1 and so on, and those of 0 to m - 1 that belong: their places and their counts.
 use mathlib.Core.Path.{_≡_, refl, sym, ap, _∙_}
 use mathlib.Core.Bool.{Bool, true, false, _&&_}
-use mathlib.Core.List.{List, _∷_, _++_}
-use Prim.Native.Nat.{ℕ, zero, suc, _+_, _≤_, _<_}
+use mathlib.Core.List.{List, [], _∷_, _++_}
+use Prim.Native.Nat.{ℕ, zero, suc, _+_, _-_, _≤_, _<_}
 use native.Mathlib.Nat.{not-suc-le-zero, le-of-suc-le-suc, add-zero}
 use native.Mathlib.Omega.{arith}
-use lib.ListN.{length, getD}
+use lib.ListN.{length, getD, length-append}
 use lib.Dec.{eqb, ltb}
 use borrow.Author.Tests.{eqb-true, eqb-false, ltb-true, ltb-false, lt-ltb, le-ltb}
 use Rattle.whole.specs.IndexedTotal.{totalTo, total-front, total-same}
-use Rattle.terms.specs.Tests.{bit, count, every, rising}
+use Rattle.terms.specs.Tests.{bit, count, every, keep, pick, rising}
 use Rattle.terms.specs.Points.{below}
 use Rattle.terms.specs.Tree.{members}
 use Rattle.theory.specs.Flags.{true-and, and-no}
 use Rattle.theory.specs.Counting.{count-keep, count-same, count-no}
-use Rattle.theory.specs.Keeping.{keep-every, every-keep, every-kept, length-keep}
+use Rattle.theory.specs.Keeping.{keep-append, keep-every, every-keep, every-kept, length-keep}
 
 pub length-rising : (a c : ℕ) → length (rising a c) ≡ c
 unfolding rising
@@ -110,3 +110,17 @@ length-members belongs m = length-keep belongs (rising 0 m) ∙ count-to belongs
 -- Of the numbers below n all belong to a shelf of n.
 pub members-shelf : (n : ℕ) → members (below n) n ≡ rising 0 n
 members-shelf n = keep-every (below n) 0 (rising 0 n) (every-rising (below n) 0 n (λ p l r. lt-ltb p n (omega arith)))
+
+-- One number more.
+pub members-next : (belongs : ℕ → Bool) (n : ℕ) → members belongs (n + 1) ≡ members belongs n ++ pick (belongs n) n []
+unfolding keep rising
+members-next belongs n =
+    let e : 0 + n ≡ n = omega arith in
+    rw e at (ap (keep belongs) (rising-append 0 n 1) ∙ keep-append belongs (rising 0 n) (rising (0 + n) 1))
+
+-- Of fewer numbers no more belong.
+pub members-fewer : (belongs : ℕ → Bool) {n m : ℕ} → n ≤ m → length (members belongs n) ≤ length (members belongs m)
+members-fewer belongs {n} {m} l =
+    let e : n + (m - n) ≡ m = omega arith in
+    let all = rw e at (ap (keep belongs) (rising-append 0 n (m - n)) ∙ keep-append belongs (rising 0 n) (rising (0 + n) (m - n))) in
+    omega (arith, ap length all, length-append (members belongs n) (keep belongs (rising (0 + n) (m - n))))

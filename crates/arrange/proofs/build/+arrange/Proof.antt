@@ -47,6 +47,9 @@ module _ (t : ℕ) where
       let a = c .before .before .args in
       arranged-short (a .k) (coord (a .k) (a .points .now)) (a .s) (a .run .now) (c .if1 .taken)
 
+  add-r : lts.Need-add-r calls at arrange.Post
+  add-r c = omega arith
+
   place-node-requires : lts.Need-place-node-requires calls at arrange.Post
   place-node-requires c κs = (c .before .before .before .pre .1, omega arith)
 
@@ -99,9 +102,6 @@ module _ (t : ℕ) where
         omega (arith, b .pre .0, length-take (place p) (placed p)),
         arrangeable-front (arrangeable-same (b .pre .1) (p .place-node .ensures .same)) _ (place p) (next-dimension (c .before)),
       )
-
-  add-r : lts.Need-add-r calls at arrange.Post
-  add-r c = omega arith
 
   mul : lts.Need-mul-arrange calls at arrange.Post
   mul c = omega arith
@@ -157,6 +157,7 @@ pub +arrange-spec : {M : Type 1} → statement M
     (at t)
     arrange.Post
     (returns t)
+    (add-r t)
     (place-node-requires t)
     (keeps-length t)
     (returns-2 t)
@@ -164,7 +165,6 @@ pub +arrange-spec : {M : Type 1} → statement M
     (prefix t)
     (aggregate t)
     (left-requires t)
-    (add-r t)
     (mul t)
     (sub t)
     (part-start t)

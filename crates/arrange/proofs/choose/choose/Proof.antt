@@ -10,10 +10,10 @@ use Rattle.arrange.proofs.choose.choose.Statement.{statement}
 use Rattle.arrange.proofs.choose.choose.Tie as tie
 
 abbrev Inv-loop : tie.InvT-loop
-Inv-loop run₀ m a₀ e₀ lo₀ top₀ stuck₀ run a e lo top stuck = Narrowed run₀ run m a e
+Inv-loop run₀ m a₀ e₀ lo₀ top₀ pass₀ stuck₀ run a e lo top pass stuck = Narrowed run₀ run m a e
 
 abbrev μ-loop : tie.MeasureT-loop
-μ-loop run₀ m a₀ e₀ lo₀ top₀ stuck₀ run a e lo top stuck = top - lo
+μ-loop run₀ m a₀ e₀ lo₀ top₀ pass₀ stuck₀ run a e lo top pass stuck = top - lo
 
 loop-holds : tie.Need-loop-holds Inv-loop μ-loop
 loop-holds c = narrowed-all (c .before .args .run .now) (c .before .args .m) (c .before .pre .0)
@@ -49,17 +49,20 @@ sub-top : tie.Need-sub-top Inv-loop μ-loop
 sub-top c = omega arith
 
 -- after a pass the half with the place m is the part, and fewer pivots are left
-halved : (c : tie.Joined3 Inv-loop μ-loop)
-    → (let before = c .before .before .before .before .before .before .before .before .before .before .before in
-    Narrowed (before .before .before .args .run .now) (c .before .before .before .partition .last .0) (before .before .before .args .m) (c .if3 .a) (c .if3 .e)
-    × (c .if3 .top - c .if3 .lo < before .loop .top - before .loop .lo))
+halved : (c : tie.Joined4 Inv-loop μ-loop)
+    → (let before = c .before .before .before .before .before .before .before .before .before .before .before .before in
+    Narrowed (before .before .before .args .run .now) (c .before .before .before .partition .last .0) (before .before .before .args .m) (c .if4 .a) (c .if4 .e)
+    × (c .if4 .top - c .if4 .lo < before .loop .top - before .loop .lo))
 halved c =
-    let l = c .before .before .before .before .before .before .before .before .before .before .before .loop in
+    let l = c .before .before .before .before .before .before .before .before .before .before .before .before .loop in
     let p = c .before .before .before .partition .ensures in
     ⊎-elim
     (λ w. (rw (w .1, w .2) (narrowed-left (l .inv) p (w .0 .taken)), omega arith))
     (λ w. (rw (w .1, w .2) (narrowed-right (l .inv) p (w .0 .left)), omega arith))
-    (c .if3 .came)
+    (c .if4 .came)
+
+add-pass : tie.Need-add-pass Inv-loop μ-loop
+add-pass c = omega (arith, ltb-true)
 
 sub-stuck : tie.Need-sub-stuck Inv-loop μ-loop
 sub-stuck c = omega arith
@@ -99,6 +102,7 @@ choose-spec =
     next-pivot-requires
     partition-requires
     sub-top
+    add-pass
     sub-stuck
     sub-stuck-2
     loop-less
