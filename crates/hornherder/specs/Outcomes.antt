@@ -24,10 +24,10 @@ use Rattle.theory.specs.EachNumberOnce.{shelf-length}
 use Rattle.theory.specs.WhatIsWritten.{if-refused}
 use Rattle.theory.specs.InsideAndOutside.{lists-length}
 use Rattle.theory.specs.FirstRefusalIsLowest.{risesFrom, first-lowest}
-use Rattle.theory.specs.RefusalsPassed.{passed-parts, points-passed, first-skip, first-stop}
+use Rattle.theory.specs.RefusalsPassed.{passed-parts, points-passed}
 use Rattle.region.specs.Points.{lone-coord}
 use Rattle.walk.specs.Shelf.{Listed}
-use Rattle.hornherder.specs.First.{First}
+use Rattle.hornherder.specs.First.{First, first-stops, first-goes-on}
 use Rattle.hornherder.specs.Stock.{shortRefusals, stockRefusals, stock-once}
 
 -- What 1 to 5 have tested: the points, and room for n numbers in both buffers.
@@ -70,15 +70,17 @@ module _ (k n : ℕ) (points : List ℤ) (order : List ℕ) {c : ℕ} (f : First
         refused = λ e. absurd (e refl);
       }
 
+  first-built : First (buildRefusals k n points order) c
+  unfolding buildAnswer
+  first-built = record { is = answered }
+
   pub check-refused : c ≢ 0 → c ≡ checkAnswer k n points order
-  unfolding checkAnswer buildAnswer
-  check-refused m = answered ∙ sym (first-stop (buildRefusals k n points order) (treeRefusals k n points order) (λ z. m (answered ∙ z)))
+  unfolding checkAnswer
+  check-refused m = first-stops (treeRefusals k n points order) first-built m .is
 
   pub check-goes-on : {d : ℕ} → c ≡ 0 → First (treeRefusals k n points order) d → d ≡ checkAnswer k n points order
-  unfolding checkAnswer buildAnswer risesFrom
-  check-goes-on z g =
-      let lowest = first-lowest 1 (buildRefusals k n points order) (omega arith) refl in
-      g .is ∙ sym (first-skip (buildRefusals k n points order) (treeRefusals k n points order) (record { fails = lowest .done (sym answered ∙ z) }))
+  unfolding checkAnswer risesFrom
+  check-goes-on z g = first-goes-on refl first-built z g .is
 
 -- No count of the walk is over the number of slots.
 pub record AtMost (n i o u : ℕ) : Type 0 where

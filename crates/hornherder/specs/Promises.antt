@@ -14,10 +14,10 @@ use Rattle.terms.specs.Points.{below}
 use Rattle.terms.specs.Tree.{eachOnce}
 use Rattle.terms.specs.Region.{region}
 use Rattle.terms.specs.Bound.{S, isSquare}
-use Rattle.terms.specs.Refusals.{buildRefusals, checkRefusals, listRefusals}
-use Rattle.terms.specs.Calls.{ifDone, Built, checkAnswer, listCode, listAnswer, ListedAs, placeAnswer}
+use Rattle.terms.specs.Refusals.{buildRefusals, checkRefusals, listRefusals, placeRefusals}
+use Rattle.terms.specs.Calls.{ifDone, Built, checkAnswer, listCode, listAnswer, ListedAs, placeCode, placeAnswer}
 use Rattle.theory.specs.OneOutcome.{built-once, built-same}
-use Rattle.theory.specs.FirstRefusalIsLowest.{Lowest, build-lowest, check-lowest, list-lowest}
+use Rattle.theory.specs.FirstRefusalIsLowest.{Lowest, build-lowest, check-lowest, list-lowest, place-lowest}
 use Rattle.theory.specs.RefusalsPassed.{list-passed}
 use Rattle.theory.specs.InsideAndOutside.{shelf-lists-length, shelf-places-each}
 use Rattle.theory.specs.FaceLentAlone.{faceNormals, faceOffsets}
@@ -57,21 +57,31 @@ module _ (k n : ℕ) (points : List ℤ) (order : List ℕ) {a : ℕ} (e : a ≡
   pub check-reads-n-slots : (q : List ℕ) → take n order ≡ take n q → {b : ℕ} → b ≡ checkAnswer k n points q → a ≡ b
   check-reads-n-slots q same f = e ∙ check-reads k n points order q same ∙ sym f
 
+-- An answer's number is that of the refusal, and 0 where none holds.
+code-of : {A : Type 0} (code : A → ℕ) (c : ℕ) (done refused : A) → code done ≡ 0 → code refused ≡ c → code (ifDone c done refused) ≡ c
+code-of code zero done refused d r = d
+code-of code (suc c) done refused d r = r
+
 -- ---- the one-point test
--- Two outcomes that satisfy the contract are equal.
-pub place-once : (k h : ℕ) (point normals offsets : List ℤ) {a b : Placing}
-    → a ≡ placeAnswer k h point normals offsets → b ≡ placeAnswer k h point normals offsets → a ≡ b
-place-once k h point normals offsets e f = e ∙ sym f
+module _ (k h : ℕ) (point normals offsets : List ℤ) {a : Placing} (e : a ≡ placeAnswer k h point normals offsets) where
+  -- Two outcomes that satisfy the contract are equal.
+  pub place-once : {b : Placing} → b ≡ placeAnswer k h point normals offsets → a ≡ b
+  place-once f = e ∙ sym f
+
+  place-number : a .code ≡ placeCode k h point normals offsets
+  unfolding placeAnswer
+  place-number =
+      ap (λ (r : Placing). r .code) e ∙ code-of (λ (r : Placing). r .code) (placeCode k h point normals offsets) _ _ refl refl
+
+  -- The number is the lowest refusal that holds, and 0 where none does.
+  pub place-answers-the-lowest : Lowest (placeRefusals k h point normals offsets) (a .code)
+  place-answers-the-lowest = rw place-number (place-lowest k h point normals offsets)
 
 -- ---- list
 module _ (k n h : ℕ) (points : List ℤ) (order : List ℕ) (normals offsets : List ℤ) (list : List ℕ) where
-  code-of : (c : ℕ) (done : Listing) → done .code ≡ 0 → ifDone c done (record { code = c; inside = 0; outside = 0; visits = 0 }) .code ≡ c
-  code-of zero done e = e
-  code-of (suc c) done e = refl
-
   answer-code : listAnswer k n h points order normals offsets list .code ≡ listCode k n h points order normals offsets list
   unfolding listAnswer
-  answer-code = code-of (listCode k n h points order normals offsets list) _ refl
+  answer-code = code-of (λ (r : Listing). r .code) (listCode k n h points order normals offsets list) _ _ refl refl
 
   module _ {a : Listing} {x : List ℕ} (e : ListedAs k n h points order normals offsets list a x) where
     code : a .code ≡ listCode k n h points order normals offsets list
