@@ -4,6 +4,9 @@ use crate::library::Listing;
 use crate::region::Region;
 use crate::stock::Stock;
 
+/// How many coordinates the root box takes at a time.
+const LANES: usize = 24;
+
 /// A box by its two corner rows.
 #[derive(Clone, Copy)]
 struct Rows {
@@ -63,19 +66,30 @@ pub fn walk(stock: &Stock, order: &[u32], region: &Region, list: &mut [u32]) -> 
     }
 }
 
-/// The least and the greatest coordinate over all points, in each dimension.
+/// The least and the greatest coordinate over all points, in each dimension. Twenty-four coordinates are taken at a time, as the
+/// library takes them: for every k a place among them is always of the same dimension.
 fn root_rows(stock: &Stock) -> Rows {
+    let mut low = [i32::MAX; LANES];
+    let mut high = [i32::MIN; LANES];
+    let (blocks, rest) = stock.points.as_chunks::<LANES>();
+    for block in blocks {
+        for (lane, &x) in block.iter().enumerate() {
+            low[lane] = low[lane].min(x);
+            high[lane] = high[lane].max(x);
+        }
+    }
+    for (lane, &x) in rest.iter().enumerate() {
+        low[lane] = low[lane].min(x);
+        high[lane] = high[lane].max(x);
+    }
     let mut rows = Rows {
         low: [0; 4],
         high: [0; 4],
     };
-    rows.low[..stock.k].fill(i32::MAX);
-    rows.high[..stock.k].fill(i32::MIN);
-    for point in stock.points.chunks_exact(stock.k) {
-        for (d, &x) in point.iter().enumerate() {
-            rows.low[d] = rows.low[d].min(x);
-            rows.high[d] = rows.high[d].max(x);
-        }
+    for d in 0..stock.k {
+        let lanes = || (d..LANES).step_by(stock.k);
+        rows.low[d] = lanes().map(|lane| low[lane]).min().unwrap();
+        rows.high[d] = lanes().map(|lane| high[lane]).max().unwrap();
     }
     rows
 }

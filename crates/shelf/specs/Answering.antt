@@ -10,7 +10,6 @@ use lib.IntN.{ℤ}
 use Rattle.terms.specs.declared.Listing.{Listing}
 use Rattle.terms.specs.Calls.{Built, listAnswer, listAfter}
 use Rattle.theory.specs.Flags.{not-true, not-false}
-use Rattle.text.specs.Input.{Says}
 use Rattle.text.specs.Answer.{refusedText}
 use Rattle.text.specs.TextReading.{ReadsText}
 use Rattle.text.specs.Printing.{Printed}

@@ -1,8 +1,8 @@
 -- The least and the greatest value over a run. Both are carried through the run number by number, each time one of two values is chosen:
 -- what holds of every such choice is proved once, for both.
-use mathlib.Core.Path.{_≡_, refl, _∙_, sym, ap}
+use mathlib.Core.Path.{_≡_, refl}
 use mathlib.Core.Logic.{_⊎_, inl, inr}
-use mathlib.Core.List.{List, [], _∷_, _++_}
+use mathlib.Core.List.{List, [], _∷_}
 use Prim.Native.Nat.{ℕ, zero, suc, _<_}
 use native.Mathlib.Nat.{not-suc-le-zero, le-of-suc-le-suc}
 use native.Mathlib.Omega.{arith}
@@ -29,12 +29,6 @@ unfolding greatestFrom
 greatest-carried = record { none = λ value first. refl; more = λ value first p run. refl; one-of = greater-one-of }
 
 module _ {choose : ℤ → ℤ → ℤ} {from : (ℕ → ℤ) → ℤ → List ℕ → ℤ} (c : Carried choose from) (value : ℕ → ℤ) where
-  -- One more number at the end is one more choice.
-  last-chosen : (first : ℤ) (run : List ℕ) (p : ℕ) → from value first (run ++ p ∷ []) ≡ choose (from value first run) (value p)
-  last-chosen first [] p = c .more value first p [] ∙ c .none value (choose first (value p)) ∙ sym (ap (λ (z : ℤ). choose z (value p)) (c .none value first))
-  last-chosen first (q ∷ run) p =
-      c .more value first q (run ++ p ∷ []) ∙ last-chosen (choose first (value q)) run p ∙ sym (ap (λ (z : ℤ). choose z (value p)) (c .more value first q run))
-
   -- What holds of the first value and of every number's holds of the one carried.
   carried-keeps : (P : ℤ → Type 0) (first : ℤ) (run : List ℕ) → P first → ((i : ℕ) → i < length run → P (value (getD run i 0))) → P (from value first run)
   carried-keeps P first [] p each = rw (c .none value first) p
@@ -89,13 +83,6 @@ module _ (value : ℕ → ℤ) (first : ℤ) (run : List ℕ) where
   each-le-greatest i l =
       let c : ℤ = value (getD run i 0) in
       carried-from-each greatest-carried value (λ z. c ≤ℤ z) (greater-from-left c) (greater-from-right c) first run i l (le-refl c)
-
-  -- One more number at the end.
-  pub least-next : (p : ℕ) → leastFrom value first (run ++ p ∷ []) ≡ lesser (leastFrom value first run) (value p)
-  least-next p = last-chosen least-carried value first run p
-
-  pub greatest-next : (p : ℕ) → greatestFrom value first (run ++ p ∷ []) ≡ greater (greatestFrom value first run) (value p)
-  greatest-next p = last-chosen greatest-carried value first run p
 
   -- Values in a range have their least and their greatest in it.
   module _ {a b : ℤ} (f : Between a first b) (each : (i : ℕ) → i < length run → Between a (value (getD run i 0)) b) where

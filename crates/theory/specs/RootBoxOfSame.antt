@@ -20,40 +20,33 @@ use Rattle.theory.specs.Boxes.{Alike}
 use Rattle.theory.specs.LeastAndGreatest.{least-between, greatest-between}
 use Rattle.theory.specs.BoxLaws.{held-root}
 
--- Every number of the run has its value between two.
-record Spans (value : ℕ → ℤ) (a b : ℤ) (run : List ℕ) : Type 0 where
-  each : (i : ℕ) → i < length run → Between a (value (getD run i 0)) b
-
--- What spans a run spans the same numbers in another order.
-spans-same : (value : ℕ → ℤ) {a b : ℤ} {xs ys : List ℕ} → Same ys xs → Spans value a b xs → Spans value a b ys
-spans-same value {a} {b} {xs} {ys} same s = record { each = other }
+-- What lies between two numbers lies there in any order of the run.
+between-same : (value : ℕ → ℤ) {a b : ℤ} {xs ys : List ℕ} → Same ys xs → ((i : ℕ) → i < length xs → Between a (value (getD xs i 0)) b)
+    → (i : ℕ) → i < length ys → Between a (value (getD ys i 0)) b
+between-same value {a} {b} {xs} {ys} same each i l =
+    let p = and-true (leZ a (value (getD ys i 0))) (every-at (λ p. within a b (value p)) 0 ys (same-every _ same all) i l) in
+    record { from-least = leZ-le (p .0); to-greatest = leZ-le (p .1) }
   where
     all : every (λ p. within a b (value p)) xs ≡ true
-    all = at-every _ 0 xs (λ i l. true-and (le-leZ (s .each i l .from-least)) (le-leZ (s .each i l .to-greatest)))
+    all = at-every _ 0 xs (λ i l. true-and (le-leZ (each i l .from-least)) (le-leZ (each i l .to-greatest)))
 
-    other : (i : ℕ) → i < length ys → Between a (value (getD ys i 0)) b
-    other i l =
-        let p = and-true (leZ a (value (getD ys i 0))) (every-at (λ p. within a b (value p)) 0 ys (same-every _ same all) i l) in
-        record { from-least = leZ-le (p .0); to-greatest = leZ-le (p .1) }
-
--- What spans a run that is not empty spans its root box.
-spans-root : (at : ℕ → ℕ → ℤ) (d : ℕ) {a b : ℤ} (run : List ℕ) → 0 < length run → Spans (λ p. at p d) a b run
+-- Coordinates between two numbers have the root box between them.
+pub root-between : (at : ℕ → ℕ → ℤ) (d : ℕ) {a b : ℤ} (run : List ℕ) → 0 < length run → ((i : ℕ) → i < length run → Between a (at (getD run i 0) d) b)
     → Between a (rootBox at run .low d) b × Between a (rootBox at run .high d) b
 unfolding rootBox
-spans-root at d [] some s = absurd (not-suc-le-zero some)
-spans-root at d {a} {b} (p ∷ run) some s =
-    let first = s .each 0 (omega arith) in
-    let rest : (i : ℕ) → i < length run → Between a (at (getD run i 0) d) b = λ i l. s .each (suc i) (omega arith) in
-    (least-between _ _ run first rest, greatest-between _ _ run first rest)
+root-between at d [] some each = absurd (not-suc-le-zero some)
+root-between at d {a} {b} (p ∷ run) some each =
+    let others : (i : ℕ) → i < length run → Between a (at (getD run i 0) d) b = λ i l. each (suc i) (omega arith) in
+    (least-between _ _ run (each 0 some) others, greatest-between _ _ run (each 0 some) others)
 
--- The root box of the one spans the numbers of the other.
+-- The root box of the one has that of the other between its rows.
 root-spans : (k : ℕ) (at : ℕ → ℕ → ℤ) (d : ℕ) → d < k → {xs ys : List ℕ} → Same ys xs → 0 < length ys
     → Between (rootBox at xs .low d) (rootBox at ys .low d) (rootBox at xs .high d)
     × Between (rootBox at xs .low d) (rootBox at ys .high d) (rootBox at xs .high d)
 root-spans k at d l {xs} {ys} same some =
     let held = held-root k at xs in
-    spans-root at d ys some
-    (spans-same (λ p. at p d) same (record { each = λ i m. record { from-least = held .each i m .least d l; to-greatest = held .each i m .most d l } }))
+    root-between at d ys some
+    (between-same (λ p. at p d) same (λ i m. record { from-least = held .each i m .least d l; to-greatest = held .each i m .most d l }))
 
 pub root-of-same : (k : ℕ) (at : ℕ → ℕ → ℤ) {xs ys : List ℕ} → Same xs ys → 0 < length xs → Alike k (rootBox at xs) (rootBox at ys)
 root-of-same k at {xs} {ys} same some =

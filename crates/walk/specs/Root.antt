@@ -1,87 +1,192 @@
--- The root box over the numbers, one dimension after the other: the code's rows agree with it below dimension k.
--- Number 0's coordinate is where the least and the greatest start, and taking it once more changes nothing.
+-- The root box in one pass. The coordinates are dealt to lanes in turn, as cards are, and a lane keeps the least and the greatest of what it was dealt.
+-- Since the lanes are a multiple of k, dealing them to k places deals the coordinates to k places, one for each dimension.
 use mathlib.Core.Path.{_≡_, refl, sym, ap, _∙_}
-use mathlib.Core.List.{List, [], _∷_}
-use Prim.Native.Nat.{ℕ, zero, suc, _+_, _<_}
-use native.Mathlib.Nat.{not-suc-le-zero}
+use mathlib.Core.Bool.{Bool, true, false}
+use mathlib.Core.List.{List}
+use mathlib.Core.Logic.{_≢_}
+use Prim.Native.Nat.{ℕ, zero, suc, _+_, _*_, _/_, _%_, _≤_, _<_}
+use native.Mathlib.Nat.{not-suc-le-zero, mod-lt, mod-eq-of-lt, mul-add-mod-self-right, div-add-mod', div-lt-iff-lt-mul}
 use native.Mathlib.Omega.{arith}
-use lib.ListN.{length, getD, set, length-set}
-use lib.IntN.{ℤ, pos}
-use Rattle.whole.specs.Order.{lesser, greater, le-refl, lesser-eq-left, greater-eq-left}
+use lib.ListN.{length, getD, set, replicate, length-set, length-replicate, getD-replicate}
+use lib.Seq.{getD-set-same, getD-set-other}
+use lib.IntN.{ℤ, pos, negsuc}
+use lib.Signed.{_≤ℤ_}
+use lib.Dec.{eqb}
+use borrow.Author.Count.{below-more}
+use borrow.Author.Tests.{eqb-true, eqb-false}
+use Rattle.whole.specs.Order.{le-trans, le-antisym, lesser, greater, lesser-le-left, lesser-le-right, le-lesser}
+use Rattle.whole.specs.Order.{le-greater-left, le-greater-right, greater-le}
 use Rattle.terms.specs.Tests.{rising}
 use Rattle.terms.specs.Points.{coord, lone}
-use Rattle.terms.specs.Box.{Box, leastFrom, greatestFrom, rootBox}
-use Rattle.theory.specs.RisingNumbers.{rising-append}
-use Rattle.theory.specs.Boxes.{Alike}
-use Rattle.theory.specs.LeastAndGreatest.{least-next, greatest-next, least-between, greatest-between}
-use Rattle.region.specs.Ranges.{Coordinates, BoxRanges}
-use Rattle.region.specs.Points.{HasPoint}
-use Rattle.region.specs.Stores.{store-next}
+use Rattle.terms.specs.Box.{Box, rootBox}
+use Rattle.theory.specs.Tested.{Between, TestedPoints}
+use Rattle.theory.specs.RisingNumbers.{length-rising, rising-at}
+use Rattle.theory.specs.Boxes.{In, Alike}
+use Rattle.theory.specs.BoxLaws.{held-root}
+use Rattle.theory.specs.RootBoxOfSame.{root-between}
+use Rattle.region.specs.Ranges.{BoxRanges}
+use Rattle.region.specs.Points.{HasPoint, has-point}
 
 -- Every slot holds the number of a point.
 pub record Known (k : ℕ) (points : List ℤ) (order : List ℕ) : Type 0 where
   pub each : (i : ℕ) → i < length order → HasPoint k points (getD order i 0)
 
--- The least and the greatest coordinate of dimension d over the numbers below t, and number 0's.
-pub record SpanTo (k : ℕ) (points : List ℤ) (d t : ℕ) (least greatest : ℤ) : Type 0 where
-  pub low : least ≡ leastFrom (λ q. coord k points q d) (coord k points 0 d) (rising 0 t)
-  pub high : greatest ≡ greatestFrom (λ q. coord k points q d) (coord k points 0 d) (rising 0 t)
+-- The order of the greatest: what is greater comes first.
+abbrev pub atLeast : ℤ → ℤ → Type 0
+atLeast a b = b ≤ℤ a
 
-module _ (k : ℕ) (points : List ℤ) (d : ℕ) where
-  -- Before the first number.
-  pub span-none : SpanTo k points d 0 (coord k points 0 d) (coord k points 0 d)
-  unfolding leastFrom greatestFrom rising
-  span-none = record { low = refl; high = refl }
+-- The first i values are dealt to w lanes in turn. What a lane keeps comes before each value dealt to it, and after all that come before those and the start.
+pub record Row (le : ℤ → ℤ → Type 0) (w : ℕ) (value : ℕ → ℤ) (start : ℤ) (i : ℕ) (row : List ℤ) : Type 0 where
+  pub wide : w ≤ length row
+  pub before : (u : ℕ) → u < i → le (lone row (u % w)) (value u)
+  pub after : (z : ℤ) (j : ℕ) → j < w → le z start → ((u : ℕ) → u < i → u % w ≡ j → le z (value u)) → le z (lone row j)
 
-  -- One number more.
-  pub span-more : {least greatest : ℤ} (t : ℕ) → SpanTo k points d t least greatest
-      → SpanTo k points d (t + 1) (lesser least (coord k points t d)) (greater greatest (coord k points t d))
-  unfolding rising
-  span-more t s =
-      let z : 0 + t ≡ t = omega arith in
-      record {
-        low = rw (s .low, rising-append 0 t 1, z) (sym (least-next _ _ (rising 0 t) t));
-        high = rw (s .high, rising-append 0 t 1, z) (sym (greatest-next _ _ (rising 0 t) t));
-      }
+-- An order of numbers, and the choice of that of two which comes first in it.
+record Choice (le : ℤ → ℤ → Type 0) (pick : ℤ → ℤ → ℤ) : Type 0 where
+  trans : {a b c : ℤ} → le a b → le b c → le a c
+  left : (a b : ℤ) → le (pick a b) a
+  right : (a b : ℤ) → le (pick a b) b
+  both : {z a b : ℤ} → le z a → le z b → le z (pick a b)
+  antisym : {a b : ℤ} → le a b → le b a → a ≡ b
 
--- The root box of m numbers in dimension d.
-pub span-all : (k : ℕ) (points : List ℤ) (d m : ℕ) {least greatest : ℤ} → 0 < m → SpanTo k points d m least greatest
-    → (least ≡ rootBox (coord k points) (rising 0 m) .low d) × (greatest ≡ rootBox (coord k points) (rising 0 m) .high d)
-unfolding rootBox leastFrom greatestFrom rising
-span-all k points d zero some s = absurd (not-suc-le-zero some)
-span-all k points d (suc m) some s =
-    let x : ℤ = coord k points 0 d in (
-      s .low ∙ ap (λ (z : ℤ). leastFrom (λ q. coord k points q d) z (rising 1 m)) (lesser-eq-left (le-refl x)),
-      s .high ∙ ap (λ (z : ℤ). greatestFrom (λ q. coord k points q d) z (rising 1 m)) (greater-eq-left (le-refl x)),
-    )
+-- The lesser of two, and the greater.
+least-choice : Choice _≤ℤ_ lesser
+least-choice = record { trans = le-trans; left = lesser-le-left; right = lesser-le-right; both = le-lesser; antisym = le-antisym }
 
--- The rows agree with the root box below dimension t.
-pub record RootTo (k : ℕ) (points : List ℤ) (order : List ℕ) (t : ℕ) (low high : List ℤ) : Type 0 where
-  pub low-size : length low ≡ 4
-  pub high-size : length high ≡ 4
-  pub same : Alike t (record { low = lone low; high = lone high }) (rootBox (coord k points) order)
+greatest-choice : Choice atLeast greater
+greatest-choice = record { trans = λ h k. le-trans k h; left = le-greater-left; right = le-greater-right; both = greater-le; antisym = λ h k. le-antisym k h }
 
--- One dimension more.
-pub root-more : {k : ℕ} {points : List ℤ} {order : List ℕ} {t : ℕ} {low high : List ℤ} {least greatest : ℤ} → t < 4
-    → least ≡ rootBox (coord k points) order .low t → greatest ≡ rootBox (coord k points) order .high t
-    → RootTo k points order t low high → RootTo k points order (t + 1) (set low t least) (set high t greatest)
-root-more {k} {points} {order} {t} {low} {high} {least} {greatest} few el eh r = record {
-  low-size = length-set low t least ∙ r .low-size;
-  high-size = length-set high t greatest ∙ r .high-size;
-  same = record {
-    lows = store-next (λ d v. v ≡ rootBox (coord k points) order .low d) (pos 0) low t least (omega (arith, r .low-size)) (r .same .lows) el;
-    highs = store-next (λ d v. v ≡ rootBox (coord k points) order .high d) (pos 0) high t greatest (omega (arith, r .high-size)) (r .same .highs) eh;
-  };
+-- What holds of the value stored at place j, and at the others of what stood there, holds after the store.
+stored-by : (P : ℤ → Type 0) (row : List ℤ) (j : ℕ) (x : ℤ) (e : ℕ) → j < length row → (e ≡ j → P x) → (e ≢ j → P (lone row e)) → P (lone (set row j x) e)
+stored-by P row j x e l new old = go (eqb e j) refl
+  where
+    go : (t : Bool) → eqb e j ≡ t → P (lone (set row j x) e)
+    go true q = let s = eqb-true e j q in rw (s, getD-set-same row j x (pos 0) l) (new s)
+    go false q = let s = eqb-false e j q in rw (getD-set-other row j e x (pos 0) s) (old s)
+
+-- Before the first value every lane has the start.
+row-none : {le : ℤ → ℤ → Type 0} (w n : ℕ) (value : ℕ → ℤ) (start : ℤ) → w ≤ n → Row le w value start 0 (replicate n start)
+row-none w n value start few = record {
+  wide = omega (arith, length-replicate n start);
+  before = λ u l. absurd (not-suc-le-zero l);
+  after = λ z j l zs all. rw (getD-replicate n j start (pos 0) (omega arith)) zs;
 }
+
+module _ {le : ℤ → ℤ → Type 0} {pick : ℤ → ℤ → ℤ} (c : Choice le pick) {w : ℕ} {value : ℕ → ℤ} {start : ℤ} {i : ℕ} {row : List ℤ} (r : Row le w value start i row) where
+  -- One value more, dealt to lane j.
+  row-more : (j : ℕ) → j < w → i % w ≡ j → Row le w value start (i + 1) (set row j (pick (lone row j) (value i)))
+  row-more j l at = record { wide = omega (arith, length-set row j x, r .wide); before = below-more _ i before here; after = after }
+    where
+      x : ℤ
+      x = pick (lone row j) (value i)
+
+      room : j < length row
+      room = omega (arith, r .wide)
+
+      before : (u : ℕ) → u < i → le (lone (set row j x) (u % w)) (value u)
+      before u m = stored-by (λ y. le y (value u)) row j x (u % w) room (λ e. c .trans (c .left _ _) (rw e at (r .before u m))) (λ n. r .before u m)
+
+      here : le (lone (set row j x) (i % w)) (value i)
+      here = rw (at, getD-set-same row j x (pos 0) room) (c .right (lone row j) (value i))
+
+      after : (z : ℤ) (e : ℕ) → e < w → le z start → ((u : ℕ) → u < i + 1 → u % w ≡ e → le z (value u)) → le z (lone (set row j x) e)
+      after z e m zs all =
+          let old = r .after z e m zs (λ u n. all u (omega arith)) in
+          stored-by (le z) row j x e room (λ q. c .both (rw q at old) (all i (omega arith) (at ∙ sym q))) (λ n. old)
+
+  -- The lanes themselves dealt to k places: where the lanes are a multiple of k, the values are dealt to k places.
+  row-of-lanes : {k : ℕ} {short : List ℤ} → 0 < w → ((u : ℕ) → u % w % k ≡ u % k) → Row le k (lone row) start w short → Row le k value start i short
+  row-of-lanes {k} {short} some same s = record {
+    wide = s .wide;
+    before = λ u l. c .trans (rw (same u) at (s .before (u % w) (mod-lt u some))) (r .before u l);
+    after = λ z d l zs all. s .after z d l zs (λ j m e. r .after z j m zs (λ u n f. all u n (sym (same u) ∙ ap (λ (v : ℕ). v % k) f ∙ e)));
+  }
+
+-- The least and the greatest of what each of w lanes was dealt. No coordinate is above the start of the least, nor below that of the greatest.
+pub record Dealt (w : ℕ) (low high : ℕ → ℤ) (i : ℕ) (least greatest : List ℤ) : Type 0 where
+  pub lows : Row _≤ℤ_ w low (pos 32767) i least
+  pub highs : Row atLeast w high (negsuc 32767) i greatest
+
+-- Before the first value.
+pub dealt-none : (w n : ℕ) (low high : ℕ → ℤ) → w ≤ n → Dealt w low high 0 (replicate n (pos 32767)) (replicate n (negsuc 32767))
+dealt-none w n low high few = record { lows = row-none w n low (pos 32767) few; highs = row-none w n high (negsuc 32767) few }
+
+module _ {w : ℕ} {low high : ℕ → ℤ} {i : ℕ} {least greatest : List ℤ} (r : Dealt w low high i least greatest) where
+  -- One value more.
+  pub dealt-more : (j : ℕ) → j < w → i % w ≡ j
+      → Dealt w low high (i + 1) (set least j (lesser (lone least j) (low i))) (set greatest j (greater (lone greatest j) (high i)))
+  dealt-more j l at = record { lows = row-more least-choice (r .lows) j l at; highs = row-more greatest-choice (r .highs) j l at }
+
+  -- The lanes dealt to k places.
+  pub dealt-again : {k : ℕ} {lows highs : List ℤ} → 0 < w → ((u : ℕ) → u % w % k ≡ u % k) → Dealt k (lone least) (lone greatest) w lows highs → Dealt k low high i lows highs
+  dealt-again some same s = record {
+    lows = row-of-lanes least-choice (r .lows) some same (s .lows);
+    highs = row-of-lanes greatest-choice (r .highs) some same (s .highs);
+  }
 
 -- Points in range have their root box in range.
 pub root-ranges : {k : ℕ} {points : List ℤ} (order : List ℕ) {b : Box} → 0 < length order → Known k points order → Alike k b (rootBox (coord k points) order) → BoxRanges k b
-unfolding rootBox
-root-ranges [] some w same = absurd (not-suc-le-zero some)
-root-ranges {k} {points} (p ∷ run) some w same =
-    let first = w .each 0 (omega arith) .ranges in
-    let others : (i : ℕ) → i < length run → Coordinates k (coord k points (getD run i 0)) = λ i l. w .each (suc i) (omega arith) .ranges in
-    record {
-      low = record { ranges = λ d l. rw (same .lows d l) (least-between _ _ run (first .ranges d l) (λ i m. others i m .ranges d l)) };
-      high = record { ranges = λ d l. rw (same .highs d l) (greatest-between _ _ run (first .ranges d l) (λ i m. others i m .ranges d l)) };
-    }
+root-ranges {k} {points} order some w same =
+    record { low = record { ranges = λ d l. rw (same .lows d l) (all d l .0) }; high = record { ranges = λ d l. rw (same .highs d l) (all d l .1) } }
+  where
+    all : (d : ℕ) → d < k → Between (negsuc 32767) (rootBox (coord k points) order .low d) (pos 32767) × Between (negsuc 32767) (rootBox (coord k points) order .high d) (pos 32767)
+    all d l = root-between (coord k points) d order some (λ i m. w .each i m .ranges .ranges d l)
+
+-- Since 24 is a multiple of each k, a lane has coordinates of one dimension.
+pub lane-dimension : {k m : ℕ} {points : List ℤ} → TestedPoints k m points → (u : ℕ) → u % 24 % k ≡ u % k
+lane-dimension {k} t u = go k (t .some) (t .few)
+  where
+    go : (k : ℕ) → 1 ≤ k → k ≤ 4 → u % 24 % k ≡ u % k
+    go zero some few = absurd (not-suc-le-zero some)
+    go (suc zero) some few = omega arith
+    go (suc (suc zero)) some few = omega arith
+    go (suc (suc (suc zero))) some few = omega arith
+    go (suc (suc (suc (suc zero)))) some few = omega arith
+    go (suc (suc (suc (suc (suc k))))) some few = absurd (omega arith)
+
+module _ {k m : ℕ} {points : List ℤ} (some : 0 < m) (t : TestedPoints k m points) where
+  -- What comes before each coordinate of dimension d, and after all that do, stands in its place once all coordinates are dealt to k places.
+  row-root : {le : ℤ → ℤ → Type 0} {pick : ℤ → ℤ → ℤ} {start bound : ℤ} {row : List ℤ} (d : ℕ) → d < k → Choice le pick → Row le k (lone points) start (length points) row
+      → le bound start → ((p : ℕ) → p < m → le bound (coord k points p d)) → (((p : ℕ) → p < m → le (lone row d) (coord k points p d)) → le (lone row d) bound)
+      → lone row d ≡ bound
+  row-root {le} {bound = bound} {row} d l c r from each to = c .antisym (to before) (r .after bound d l from after)
+    where
+      before : (p : ℕ) → p < m → le (lone row d) (coord k points p d)
+      before p n =
+          let place : (p * k + d) % k ≡ d = mul-add-mod-self-right p k d ∙ mod-eq-of-lt l in
+          rw place at (r .before (p * k + d) (omega (arith, has-point t n .room)))
+
+      after : (u : ℕ) → u < length points → u % k ≡ d → le bound (lone points u)
+      after u n e =
+          let few : u / k < m = div-lt-iff-lt-mul {k = k} {x = u} {y = m} (omega arith) .1 (omega (arith, t .size)) in
+          let place : u / k * k + d ≡ u = rw e at (div-add-mod' u k) in
+          rw place at (each (u / k) few)
+
+  -- Place p of the numbers has number p.
+  number : (p : ℕ) → p < m → getD (rising 0 m) p 0 ≡ p
+  number p n = omega (arith, rising-at 0 m p 0 n)
+
+  -- Each number's point lies in the root box.
+  numbers-held : (p : ℕ) → p < m → In k (rootBox (coord k points) (rising 0 m)) (coord k points p)
+  numbers-held p n = rw (number p n) at (held-root k (coord k points) (rising 0 m) .each p (omega (arith, length-rising 0 m)))
+
+  -- The numbers' coordinates between two numbers have the root box between them.
+  numbers-between : (d : ℕ) {a b : ℤ} → ((p : ℕ) → p < m → Between a (coord k points p d) b)
+      → Between a (rootBox (coord k points) (rising 0 m) .low d) b × Between a (rootBox (coord k points) (rising 0 m) .high d) b
+  numbers-between d {a} {b} each = root-between (coord k points) d (rising 0 m) (omega (arith, length-rising 0 m)) at
+    where
+      at : (i : ℕ) → i < length (rising 0 m) → Between a (coord k points (getD (rising 0 m) i 0) d) b
+      at i n = let h : i < m = omega (arith, length-rising 0 m) in rw (number i h) (each i h)
+
+  -- All coordinates dealt to k places are the root box.
+  pub dealt-root : {low high : List ℤ} → Dealt k (lone points) (lone points) (length points) low high
+      → Alike k (record { low = lone low; high = lone high }) (rootBox (coord k points) (rising 0 m))
+  dealt-root {low} {high} r = record {
+    lows = λ d l. row-root d l least-choice (r .lows) (numbers-between d (range d l) .0 .to-greatest) (λ p n. numbers-held p n .least d l)
+        (λ each. numbers-between d (λ p n. record { from-least = each p n; to-greatest = range d l p n .to-greatest }) .0 .from-least);
+    highs = λ d l. row-root d l greatest-choice (r .highs) (numbers-between d (range d l) .1 .from-least) (λ p n. numbers-held p n .most d l)
+        (λ each. numbers-between d (λ p n. record { from-least = range d l p n .from-least; to-greatest = each p n }) .1 .to-greatest);
+  }
+    where
+      range : (d : ℕ) → d < k → (p : ℕ) → p < m → Between (negsuc 32767) (coord k points p d) (pos 32767)
+      range d l p n = has-point t n .ranges .ranges d l

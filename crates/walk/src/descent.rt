@@ -12,7 +12,7 @@ ghost use mathlib.Core.Path.{_≡_};
 ghost use mathlib.Core.Bool.{true};
 ghost use Prim.Native.Nat.{_+_, _-_, _/_, _^_, _<_};
 ghost use lib.ListN.{length};
-ghost use Rattle.terms.specs.Box.{boxOf, leftBox, rightBox};
+ghost use Rattle.terms.specs.Box.{boxOf};
 ghost use Rattle.terms.specs.Region.{isOpen};
 ghost use Rattle.walk.specs.Fill.{Placed};
 ghost use Rattle.walk.specs.Descent.{BranchAsks, BranchDoes, Child, regionOf};

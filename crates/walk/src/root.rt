@@ -1,20 +1,23 @@
-// The root box. The slots of a shelf hold each number once, so it is taken over the numbers as they are lent, in the order of memory.
-use crate::points::coordinate;
+// The root box. The slots of a shelf hold each number once, so it is taken over the numbers as they are lent, in the order of memory and in one pass.
 use terms::CornerRows;
 ghost use mathlib.Core.Path.{_≡_};
 ghost use mathlib.Core.Bool.{cond};
-ghost use Prim.Native.Nat.{_<_};
+ghost use Prim.Native.Nat.{_+_, _%_, _≤_, _<_};
+ghost use lib.ListN.{length};
 ghost use Rattle.terms.specs.Tests.{rising};
-ghost use Rattle.terms.specs.Points.{coord};
+ghost use Rattle.terms.specs.Points.{coord, lone};
 ghost use Rattle.terms.specs.Box.{boxOf, rootBox};
 ghost use Rattle.theory.specs.Tested.{TestedPoints};
 ghost use Rattle.theory.specs.Boxes.{Alike};
-ghost use Rattle.walk.specs.Root.{SpanTo};
+ghost use Rattle.walk.specs.Root.{Dealt};
 
-// The least and the greatest coordinate of one dimension.
-pub struct Span {
-    pub least: i32,
-    pub greatest: i32,
+// How many lanes there are: a multiple of 1, 2, 3 and 4, so that a lane has coordinates of one dimension only.
+const WIDTH: usize = 24;
+
+// The least and the greatest coordinate of each lane, the coordinates being dealt to the lanes in turn.
+struct Lanes {
+    least: [i32; WIDTH],
+    greatest: [i32; WIDTH],
 }
 
 // The first of two coordinates if the answer is yes, else the second.
@@ -24,41 +27,65 @@ fn choose(answer: bool, x: i32, y: i32) -> i32
     if answer { x } else { y }
 }
 
-// The least and the greatest coordinate of dimension d over m numbers, of which there is one at least.
-fn span_along(k: usize, m: usize, d: usize, points: &[i32]) -> Span
-    requires { ⌜ d < k ⌝ }
-    requires { ⌜ 0 < m ⌝ }
-    requires { ⌜ TestedPoints k m (now points) ⌝ }
-    ensures { λ r. ⌜ SpanTo k (now (points .entry)) d m (r .least) (r .greatest) ⌝ }
+// Deals count coordinates from place `from` on, the first of them to lane 0. The loop knows nothing of dimensions, so a full round is a few vector
+// instructions.
+fn deal(points: &[i32], from: usize, count: usize, lanes: Lanes) -> Lanes
+    requires { ⌜ from % 24 ≡ 0 ⌝ }
+    requires { ⌜ count ≤ 24 ⌝ }
+    requires { ⌜ from + count ≤ length (now points) ⌝ }
+    requires { ⌜ Dealt 24 (lone (now points)) (lone (now points)) from (lanes .least) (lanes .greatest) ⌝ }
+    ensures { λ r. ⌜ Dealt 24 (lone (now (points .entry))) (lone (now (points .entry))) (from + count) (r .least) (r .greatest) ⌝ }
 {
-    let first = coordinate(k, points, 0, d);
-    let mut least = first;
-    let mut greatest = first;
-    for p in 0..m {
-        let x = coordinate(k, points, p as u32, d);
-        least = choose(x < least, x, least);
-        greatest = choose(greatest < x, x, greatest);
+    let mut least = lanes.least;
+    let mut greatest = lanes.greatest;
+    for j in 0..count {
+        let x = points[from + j];
+        let low = least[j];
+        let high = greatest[j];
+        least[j] = choose(x < low, x, low);
+        greatest[j] = choose(high < x, x, high);
     }
-    Span {
+    Lanes {
         least: least,
         greatest: greatest,
     }
 }
 
-// The root box of m numbers: in each dimension the least and the greatest coordinate.
+// Deals all coordinates, a full round at a time and then the rest.
+fn deal_all(points: &[i32]) -> Lanes
+    ensures { λ r. ⌜ Dealt 24 (lone (now (points .entry))) (lone (now (points .entry))) (length (now (points .entry))) (r .least) (r .greatest) ⌝ }
+{
+    let rounds = points.len() / WIDTH;
+    let mut lanes = Lanes {
+        least: [32767; WIDTH],
+        greatest: [-32768; WIDTH],
+    };
+    for t in 0..rounds {
+        lanes = deal(points, WIDTH * t, WIDTH, lanes);
+    }
+    let from = WIDTH * rounds;
+    deal(points, from, points.len() - from, lanes)
+}
+
+// The root box of m numbers: in each dimension the least and the greatest coordinate, put together from the lanes of that dimension.
 pub fn root_box(k: usize, m: usize, points: &[i32]) -> CornerRows
     requires { ⌜ 0 < m ⌝ }
     requires { ⌜ TestedPoints k m (now points) ⌝ }
     ensures { λ r. ⌜ Alike k (boxOf r) (rootBox (coord k (now (points .entry))) (rising 0 m)) ⌝ }
 {
-    let mut low: [i32; 4] = [0; 4];
-    let mut high: [i32; 4] = [0; 4];
-    for d in 0..k {
-        let s = span_along(k, m, d, points);
-        let least = s.least;
-        let greatest = s.greatest;
-        low[d] = least;
-        high[d] = greatest;
+    let lanes = deal_all(points);
+    let least = lanes.least;
+    let greatest = lanes.greatest;
+    let mut low: [i32; 4] = [32767; 4];
+    let mut high: [i32; 4] = [-32768; 4];
+    for j in 0..WIDTH {
+        let d = j % k;
+        let x = least[j];
+        let y = greatest[j];
+        let lowest = low[d];
+        let highest = high[d];
+        low[d] = choose(x < lowest, x, lowest);
+        high[d] = choose(highest < y, y, highest);
     }
     CornerRows {
         low: low,

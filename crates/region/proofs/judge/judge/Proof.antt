@@ -1,5 +1,4 @@
 -- `judge` meets its contract. After t turns the first t live faces are judged; the next face ends the loop, is dropped, or is left.
-use mathlib.Core.Path.{refl}
 use mathlib.Core.Logic.{⊎-elim}
 use Prim.Native.Nat.{_-_}
 use native.Mathlib.Omega.{arith}

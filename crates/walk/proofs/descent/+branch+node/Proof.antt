@@ -1,7 +1,7 @@
 -- The node part and the branch part, which call each other: the measure is twice the run's length, and one more for the branch part.
 -- A branch that is judged settled goes to a copier; an open one to its node, whose two branches' boxes and live faces nest in its own.
 use mathlib.Core.Path.{_≡_, refl}
-use Prim.Native.Nat.{ℕ, _<_, _+_, _-_, _/_, _%_}
+use Prim.Native.Nat.{ℕ, _<_, _+_, _/_, _%_}
 use native.Mathlib.Omega.{arith}
 use borrow.Author.Needs.{sfits-of}
 use mir.Syntax.{w32}
