@@ -1,4 +1,4 @@
--- What the checker allows in a branch: numbers that belong, and whose key on every dimension lies within the branch's bounds.
+-- What the checker allows in a branch: numbers that belong, and whose key on every dimension lies within the branch's bounds; it tests three at once.
 -- A branch narrows its parent's bounds by its node's key, which says just that its numbers come before the node, or after it.
 use mathlib.Core.Path.{_≡_, sym, ap, _∙_}
 use mathlib.Core.Bool.{Bool, true, false, _&&_}
@@ -11,42 +11,19 @@ use lib.ListN.{length, getD, set}
 use lib.Seq.{getD-set-same, getD-set-other}
 use lib.IntN.{ℤ}
 use lib.Dec.{leb, ltb}
-use borrow.Author.Tests.{leb-true, le-leb, lt-leb, ltb-true, lt-ltb, le-ltb}
+use borrow.Author.Tests.{leb-true, le-leb, ltb-true, lt-ltb}
 use Rattle.terms.specs.Tests.{allTo}
 use Rattle.terms.specs.Before.{before}
-use Rattle.theory.specs.Flags.{and-true, true-and, and-no}
-use Rattle.theory.specs.AllAndAny.{all-each, each-all, one-all-false}
+use Rattle.theory.specs.Flags.{contra, and-true, true-and}
+use Rattle.theory.specs.AllAndAny.{all-each, each-all}
 
 -- The key lies within the bounds of dimension d: at least the least, and below the end.
 abbrev pub isWithin : List ℕ → List ℕ → ℕ → ℕ → Bool
 isWithin least end d x = leb (getD least d 0) x && ltb x (getD end d 0)
 
-pub is-within : (least end : List ℕ) (d x : ℕ) → getD least d 0 ≤ x → x < getD end d 0 → isWithin least end d x ≡ true
-is-within least end d x l h = true-and (le-leb (getD least d 0) x l) (lt-ltb x (getD end d 0) h)
-
-pub below-least : (least end : List ℕ) (d x : ℕ) → x < getD least d 0 → isWithin least end d x ≡ false
-below-least least end d x l = rw (lt-leb (getD least d 0) x l)
-
-pub from-end : (least end : List ℕ) (d x : ℕ) → getD end d 0 ≤ x → isWithin least end d x ≡ false
-from-end least end d x h = and-no (leb (getD least d 0) x) (le-ltb x (getD end d 0) h)
-
 -- Number p belongs, and its key on each of the k dimensions lies within the bounds.
 unfoldable pub isAllowed : ℕ → (ℕ → Bool) → (ℕ → ℕ → ℕ) → List ℕ → List ℕ → ℕ → Bool
 isAllowed k belongs key least end p = belongs p && allTo k (λ d. isWithin least end d (key d p))
-
--- How the test of one number ends: the number does not belong, a key is not within, or every key is.
-module _ (k : ℕ) (belongs : ℕ → Bool) (key : ℕ → ℕ → ℕ) (least end : List ℕ) (p : ℕ) where
-  pub not-belonging : belongs p ≡ false → isAllowed k belongs key least end p ≡ false
-  unfolding isAllowed
-  not-belonging e = rw e
-
-  pub not-within : (d : ℕ) → d < k → isWithin least end d (key d p) ≡ false → isAllowed k belongs key least end p ≡ false
-  unfolding isAllowed
-  not-within d l e = and-no (belongs p) (one-all-false k (λ d. isWithin least end d (key d p)) (d, l, e))
-
-  pub all-within : belongs p ≡ true → ((d : ℕ) → d < k → isWithin least end d (key d p) ≡ true) → isAllowed k belongs key least end p ≡ true
-  unfolding isAllowed
-  all-within e each = true-and e (each-all k (λ d. isWithin least end d (key d p)) each)
 
 module _ (k : ℕ) (belongs : ℕ → Bool) (key : ℕ → ℕ → ℕ) where
   -- What it says of a number that it is allowed.
@@ -68,8 +45,63 @@ module _ (k : ℕ) (belongs : ℕ → Bool) (key : ℕ → ℕ → ℕ) where
       }
 
   pub of-allowed : (least end : List ℕ) (p : ℕ) → Allowed least end p → isAllowed k belongs key least end p ≡ true
-  of-allowed least end p w = all-within k belongs key least end p (w .belonging) (λ d l.
-      is-within least end d (key d p) (w .from-least d l) (w .below-end d l))
+  unfolding isAllowed
+  of-allowed least end p w = true-and (w .belonging) (each-all k (λ d. isWithin least end d (key d p)) (λ d l.
+      true-and (le-leb (getD least d 0) (key d p) (w .from-least d l)) (lt-ltb (key d p) (getD end d 0) (w .below-end d l))))
+
+-- Three numbers pass the test.
+abbrev pub allThree : (ℕ → Bool) → ℕ → ℕ → ℕ → Bool
+allThree test p q r = test p && test q && test r
+
+-- The same, number by number.
+pub record EachOfThree (test : ℕ → Bool) (p q r : ℕ) : Type 0 where
+  pub first : test p ≡ true
+  pub second : test q ≡ true
+  pub third : test r ≡ true
+
+pub each-of-three : (test : ℕ → Bool) (p q r : ℕ) → allThree test p q r ≡ true → EachOfThree test p q r
+each-of-three test p q r e =
+    let a = and-true (test p && test q) e in
+    let b = and-true (test p) (a .0) in
+    record { first = b .0; second = b .1; third = a .1 }
+
+of-each-of-three : (test : ℕ → Bool) (p q r : ℕ) → EachOfThree test p q r → allThree test p q r ≡ true
+of-each-of-three test p q r w = true-and (true-and (w .first) (w .second)) (w .third)
+
+-- A test that follows from another follows of three numbers too.
+three-follow : (test other : ℕ → Bool) (p q r : ℕ) → ((i : ℕ) → test i ≡ true → other i ≡ true)
+    → allThree test p q r ≡ true → allThree other p q r ≡ true
+three-follow test other p q r follow e =
+    let w = each-of-three test p q r e in
+    of-each-of-three other p q r (record { first = follow p (w .first); second = follow q (w .second); third = follow r (w .third) })
+
+-- How the test of three numbers ends: one does not belong, a key of one is not within, or every key is.
+module _ (k : ℕ) (belongs : ℕ → Bool) (key : ℕ → ℕ → ℕ) (least end : List ℕ) (p q r : ℕ) where
+  -- What is asked of one number, and of its key on dimension d.
+  abbrev test : ℕ → Bool
+  test = isAllowed k belongs key least end
+
+  abbrev within : ℕ → ℕ → Bool
+  within d i = isWithin least end d (key d i)
+
+  pub not-belonging : allThree belongs p q r ≡ false → allThree test p q r ≡ false
+  unfolding isAllowed
+  not-belonging = contra (three-follow test belongs p q r (λ i e. and-true (belongs i) e .0))
+
+  pub not-within : (d : ℕ) → d < k → allThree (within d) p q r ≡ false → allThree test p q r ≡ false
+  unfolding isAllowed
+  not-within d l = contra (three-follow test (within d) p q r (λ i e. all-each k (λ d. within d i) (and-true (belongs i) e .1) d l))
+
+  pub all-within : allThree belongs p q r ≡ true → ((d : ℕ) → d < k → allThree (within d) p q r ≡ true) → allThree test p q r ≡ true
+  unfolding isAllowed
+  all-within e each =
+      let w = each-of-three belongs p q r e in
+      let on : (d : ℕ) → d < k → EachOfThree (within d) p q r = λ d l. each-of-three (within d) p q r (each d l) in
+      of-each-of-three test p q r (record {
+        first = true-and (w .first) (each-all k (λ d. within d p) (λ d l. on d l .first));
+        second = true-and (w .second) (each-all k (λ d. within d q) (λ d l. on d l .second));
+        third = true-and (w .third) (each-all k (λ d. within d r) (λ d l. on d l .third));
+      })
 
 -- What stands on dimension d once the place s holds x: x there, the old elsewhere.
 abbrev Stored : List ℕ → ℕ → ℕ → ℕ → Type 0

@@ -8,17 +8,18 @@ use native.Mathlib.Nat.{mod-eq-of-lt}
 use native.Mathlib.Omega.{arith}
 use lib.ListN.{length, getD, set}
 use lib.IntN.{ℤ}
+use lib.Dec.{ltb}
 use Rattle.terms.specs.Tests.{every}
 use Rattle.terms.specs.Before.{before}
 use Rattle.terms.specs.Run.{axis, node, lefts, rights}
 use Rattle.terms.specs.Tree.{treeRun}
-use Rattle.theory.specs.Flags.{contra, same-test, and-true, true-and}
+use Rattle.theory.specs.Flags.{contra, same-test, and-true, true-and, and-yes}
 use Rattle.theory.specs.Counting.{every-at, at-every}
 use Rattle.theory.specs.RunParts.{Parts, parts, of-parts, left-length, right-length}
 use Rattle.theory.specs.RunTests.{every-part, part-every}
 use Rattle.theory.specs.TreeFuel.{tree-fuel}
 use Rattle.theory.specs.TreeDepth.{tree-depth}
-use Rattle.arrange.specs.Allowed.{isAllowed, Allowed, allowed, of-allowed, Ordered, left-allowed, allowed-left, right-allowed, allowed-right}
+use Rattle.arrange.specs.Allowed.{isAllowed, Allowed, allowed, of-allowed, allThree, Ordered, left-allowed, allowed-left, right-allowed, allowed-right}
 
 -- A test that says just what two others say together, over a run: one of the two as a whole, the other slot by slot.
 module _ (test one other : ℕ → Bool) (run : List ℕ) where
@@ -124,7 +125,7 @@ module _ (k : ℕ) (at : ℕ → ℕ → ℤ) (belongs : ℕ → Bool) (key : �
     answers : isBranch least end s (x ∷ xs) ≡ both
     answers = same-test to-both of-both
 
-  -- How the descent goes: an empty run, a slot alone, a node that is not allowed, and a node with its two branches.
+  -- How the descent goes: a run of three slots at most, a node that is not allowed, and a node with its two branches.
   pub empty-branch : (least end : List ℕ) (s : ℕ) (run : List ℕ) → length run ≡ 0 → isBranch least end s run ≡ true
   unfolding isBranch every treeRun
   empty-branch least end s [] z = refl
@@ -140,6 +141,59 @@ module _ (k : ℕ) (at : ℕ → ℕ → ℤ) (belongs : ℕ → Bool) (key : �
       go true = refl
       go false = refl
   lone-slot least end s (x ∷ y ∷ ys) z = absurd (omega arith)
+
+  -- Branches of one slot or none add nothing to what the node asks.
+  plain : (t u : Bool) → ((t && true) && (u && true)) && true && true ≡ t && u
+  plain true true = refl
+  plain true false = refl
+  plain false u = refl
+
+  -- A node with a slot before it, and with one on either side: the numbers are allowed, and their keys rise.
+  module _ (ordered : Ordered k at belongs key) (least end : List ℕ) (s : ℕ) (l : s < k) where
+    abbrev test : ℕ → Bool
+    test = isAllowed k belongs key least end
+
+    -- Of two numbers that are allowed, the keys tell which is before the other.
+    by-keys : (p q : ℕ) → test p ≡ true → test q ≡ true → before at (axis k s) p q ≡ ltb (key s p) (key s q)
+    by-keys p q a b = rw (mod-eq-of-lt l)
+        (ordered s p q l (allowed k belongs key least end p a .belonging) (allowed k belongs key least end q b .belonging))
+
+    pub two-slots : (run : List ℕ) → length run ≡ 2
+        → (let q = getD run 0 0 in
+        let p = getD run 1 0 in
+        isBranch least end s run ≡ (allThree test p q q && ltb (key s q) (key s p)))
+    unfolding isBranch every treeRun
+    two-slots [] z = absurd (omega arith)
+    two-slots (q ∷ []) z = absurd (omega arith)
+    two-slots (q ∷ p ∷ []) z = go (test q) (test p) (by-keys q p)
+      where
+        go : (a b : Bool) {t u : Bool} → (a ≡ true → b ≡ true → t ≡ u)
+            → (a && (b && true)) && (((t && true) && true) && true && true) ≡ (b && a && a) && u
+        go true true {t} e = plain t true ∙ and-yes t refl ∙ e refl refl
+        go true false e = refl
+        go false true e = refl
+        go false false e = refl
+    two-slots (q ∷ p ∷ r ∷ rs) z = absurd (omega arith)
+
+    pub three-slots : (run : List ℕ) → length run ≡ 3
+        → (let q = getD run 0 0 in
+        let p = getD run 1 0 in
+        let r = getD run 2 0 in
+        isBranch least end s run ≡ (allThree test p q r && (ltb (key s q) (key s p) && ltb (key s p) (key s r))))
+    unfolding isBranch every treeRun
+    three-slots [] z = absurd (omega arith)
+    three-slots (q ∷ []) z = absurd (omega arith)
+    three-slots (q ∷ p ∷ []) z = absurd (omega arith)
+    three-slots (q ∷ p ∷ r ∷ []) z = go (test q) (test p) (test r) (by-keys q p) (by-keys p r)
+      where
+        go : (a b c : Bool) {t u v w : Bool} → (a ≡ true → b ≡ true → t ≡ u) → (b ≡ true → c ≡ true → v ≡ w)
+            → (a && (b && (c && true))) && (((t && true) && (v && true)) && true && true) ≡ (b && a && c) && (u && w)
+        go true true true {t} {v} e f = rw (← e refl refl, ← f refl refl) (plain t v)
+        go true true false e f = refl
+        go true false c e f = refl
+        go false true c e f = refl
+        go false false c e f = refl
+    three-slots (q ∷ p ∷ r ∷ x ∷ xs) z = absurd (omega arith)
 
   pub refused-node : (least end : List ℕ) (s : ℕ) (run : List ℕ) → 0 < length run → isAllowed k belongs key least end (node run) ≡ false
       → isBranch least end s run ≡ false

@@ -1,4 +1,5 @@
 // The checker: whether an order is the tree of its points, by one descent and no memory besides the stack.
+// A run of three slots at most is decided at once, with no bounds copied; most slots of a shelf stand in such runs.
 use crate::axis::next_axis;
 use crate::belongs::belongs;
 use crate::key::key;
@@ -8,15 +9,24 @@ ghost use lib.ListN.{length};
 ghost use Rattle.terms.specs.Points.{coord, below};
 ghost use Rattle.terms.specs.Tree.{isTree};
 ghost use Rattle.theory.specs.Tested.{TestedPoints};
-ghost use Rattle.arrange.specs.Checked.{Descends, numberAllowed, branchAllowed};
+ghost use Rattle.arrange.specs.Checked.{Descends, numberAllowed, threeAllowed, branchAllowed};
 
-// Whether number p belongs, and its key on each dimension is at least the least there and below the end.
+// Whether numbers p, q and r belong, each with its key on every dimension at least the least there and below the end.
 // The turns are four at most, a constant, so that a compiler can lay them out one after another.
-fn allowed(k: usize, m: usize, points: &[i32], least: &[u32; 4], end: &[u32; 4], p: u32) -> bool
+fn three_allowed(
+    k: usize,
+    m: usize,
+    points: &[i32],
+    least: &[u32; 4],
+    end: &[u32; 4],
+    p: u32,
+    q: u32,
+    r: u32,
+) -> bool
     requires { ⌜ TestedPoints k m (now points) ⌝ }
-    ensures { λ r. ⌜ r ≡ numberAllowed k m (now (points .entry)) (now (least .entry)) (now (end .entry)) p ⌝ }
+    ensures { λ t. ⌜ t ≡ threeAllowed k m (now (points .entry)) (now (least .entry)) (now (end .entry)) p q r ⌝ }
 {
-    if !belongs(m, p) {
+    if !(belongs(m, p) & belongs(m, q) & belongs(m, r)) {
         return false;
     }
     let mut d: usize = 0;
@@ -24,11 +34,12 @@ fn allowed(k: usize, m: usize, points: &[i32], least: &[u32; 4], end: &[u32; 4],
         if k <= d {
             return true;
         }
+        let l = least[d];
+        let e = end[d];
         let x = key(points, k, d, p);
-        if x < least[d] {
-            return false;
-        }
-        if end[d] <= x {
+        let y = key(points, k, d, q);
+        let z = key(points, k, d, r);
+        if !(((l <= x) & (x < e)) & ((l <= y) & (y < e)) & ((l <= z) & (z < e))) {
             return false;
         }
         d += 1;
@@ -36,7 +47,68 @@ fn allowed(k: usize, m: usize, points: &[i32], least: &[u32; 4], end: &[u32; 4],
     true
 }
 
-// Whether the run is a branch whose node splits on dimension s, with every number allowed. A slot alone has no branches to look into.
+// The same of one number.
+fn allowed(k: usize, m: usize, points: &[i32], least: &[u32; 4], end: &[u32; 4], p: u32) -> bool
+    requires { ⌜ TestedPoints k m (now points) ⌝ }
+    ensures { λ r. ⌜ r ≡ numberAllowed k m (now (points .entry)) (now (least .entry)) (now (end .entry)) p ⌝ }
+{
+    three_allowed(k, m, points, least, end, p, p, p)
+}
+
+// Whether the run, of two slots at most, is a branch whose node splits on dimension s, with every number allowed.
+fn few(
+    k: usize,
+    m: usize,
+    points: &[i32],
+    order: &[u32],
+    s: usize,
+    least: &[u32; 4],
+    end: &[u32; 4],
+) -> bool
+    requires { ⌜ Descends k m (now points) s (now least) (now end) ⌝ }
+    requires { ⌜ length (now order) < 3 ⌝ }
+    ensures { λ r. ⌜ r ≡ branchAllowed k m (now (points .entry)) (now (least .entry)) (now (end .entry)) s (now (order .entry)) ⌝ }
+{
+    let c = order.len();
+    if c == 0 {
+        return true;
+    }
+    let q = order[0];
+    if c == 1 {
+        return allowed(k, m, points, least, end, q);
+    }
+    let p = order[1];
+    if !three_allowed(k, m, points, least, end, p, q, q) {
+        return false;
+    }
+    key(points, k, s, q) < key(points, k, s, p)
+}
+
+// The same of a run of three slots: its node and the two slots that are its branches.
+fn three(
+    k: usize,
+    m: usize,
+    points: &[i32],
+    order: &[u32],
+    s: usize,
+    least: &[u32; 4],
+    end: &[u32; 4],
+) -> bool
+    requires { ⌜ Descends k m (now points) s (now least) (now end) ⌝ }
+    requires { ⌜ length (now order) ≡ 3 ⌝ }
+    ensures { λ r. ⌜ r ≡ branchAllowed k m (now (points .entry)) (now (least .entry)) (now (end .entry)) s (now (order .entry)) ⌝ }
+{
+    let p = order[1];
+    let q = order[0];
+    let r = order[2];
+    if !three_allowed(k, m, points, least, end, p, q, r) {
+        return false;
+    }
+    let x = key(points, k, s, p);
+    (key(points, k, s, q) < x) & (x < key(points, k, s, r))
+}
+
+// The same of any run. Three slots are looked for first: on a full shelf all the smallest runs have three.
 fn branch(
     k: usize,
     m: usize,
@@ -50,11 +122,11 @@ fn branch(
     ensures { λ r. ⌜ r ≡ branchAllowed k m (now (points .entry)) (now (least .entry)) (now (end .entry)) s (now (order .entry)) ⌝ }
 {
     let c = order.len();
-    if c == 0 {
-        return true;
+    if c == 3 {
+        return three(k, m, points, order, s, least, end);
     }
-    if c == 1 {
-        return allowed(k, m, points, least, end, order[0]);
+    if c < 3 {
+        return few(k, m, points, order, s, least, end);
     }
     node(k, m, points, order, s, least, end)
 }

@@ -16,7 +16,7 @@ use Rattle.theory.specs.RunParts.{right-length}
 use Rattle.theory.specs.TreeDepth.{next-depth}
 use Rattle.arrange.specs.Key.{keyOf}
 use Rattle.arrange.specs.Allowed.{allowed}
-use Rattle.arrange.specs.Descent.{empty-branch, lone-slot, refused-node, two-branches}
+use Rattle.arrange.specs.Descent.{refused-node, two-branches}
 use Rattle.arrange.specs.Checked.{branchAllowed, numberAllowed, keyed, ordered, key-below-last}
 use borrow.Fn.Kinds.{In}
 use borrow.Fn.PlainCycle.{Measures, is, falls, and}
@@ -28,6 +28,8 @@ use Rattle.arrange.proofs.check.node.Kinds as node-kinds
 use Rattle.arrange.proofs.check.+branch+node.Lts-node as node-lts
 use Rattle.arrange.proofs.axis.next_axis.Reads as next-axis-reads
 use Rattle.arrange.proofs.check.allowed.Reads as allowed-reads
+use Rattle.arrange.proofs.check.few.Reads as few-reads
+use Rattle.arrange.proofs.check.three.Reads as three-reads
 use Rattle.arrange.proofs.key.key.Reads as key-reads
 use Rattle.arrange.proofs.check.+branch+node.{statement}
 use Rattle.arrange.proofs.check.+branch+node.Tie.{close}
@@ -55,24 +57,24 @@ module _ (t : ℕ) where
 
   -- What the calls ask and tell.
   abbrev branch-calls : branch-lts.Claims
-  branch-calls = (allowed-reads.Asked, allowed-reads.Learnt, node-below, node-reads.Post)
+  branch-calls = (three-reads.Asked, three-reads.Learnt, few-reads.Asked, few-reads.Learnt, node-below, node-reads.Post)
 
-  empty-returns : branch-lts.Need-returns branch-calls branch-at branch-reads.Post
-  empty-returns c = sym (empty-branch _ _ _ _ _ _ _ _ (c .if1 .taken))
+  three-requires : branch-lts.Need-three-requires branch-calls branch-at branch-reads.Post
+  three-requires c κs = (c .before .before .pre .1, c .if1 .taken)
 
-  slot-read : branch-lts.Need-shared-slice-read-allowed branch-calls branch-at branch-reads.Post
-  slot-read c = omega (arith, c .before .if2 .taken)
+  three-answers : branch-lts.Need-returns branch-calls branch-at branch-reads.Post
+  three-answers c = c .three .ensures
 
-  slot-requires : branch-lts.Need-allowed-requires branch-calls branch-at branch-reads.Post
-  slot-requires c κs = c .before .before .before .before .pre .1 .tested
+  few-requires : branch-lts.Need-few-requires branch-calls branch-at branch-reads.Post
+  few-requires c κs = (c .before .before .before .pre .1, c .if2 .taken)
 
-  slot-returns : branch-lts.Need-returns-2 branch-calls branch-at branch-reads.Post
-  slot-returns c = c .allowed .ensures ∙ lone-slot _ _ _ _ _ _ _ _ (c .before .before .if2 .taken)
+  few-answers : branch-lts.Need-returns-2 branch-calls branch-at branch-reads.Post
+  few-answers c = c .few .ensures
 
   node-requires : branch-lts.Need-node-requires branch-calls branch-at branch-reads.Post
   node-requires c κs =
       let b = c .before .before .before in
-      (omega (arith, b .pre .0), (b .pre .1, omega (arith, c .before .if1 .left)))
+      (omega (arith, b .pre .0), (b .pre .1, omega (arith, c .if2 .left)))
 
   node-answers : branch-lts.Need-returns-3 branch-calls branch-at branch-reads.Post
   node-answers c = c .node .ensures
@@ -276,10 +278,10 @@ pub +branch+node-spec : {M : Type 1} → statement M
     (branch-calls t)
     (branch-at t)
     branch-reads.Post
-    (empty-returns t)
-    (slot-read t)
-    (slot-requires t)
-    (slot-returns t)
+    (three-requires t)
+    (three-answers t)
+    (few-requires t)
+    (few-answers t)
     (node-requires t)
     (node-answers t))
     λ t. node-lts.spec

@@ -1,0 +1,60 @@
+-- A run of three slots: the law of three slots gives the answer by the test of all and by their keys.
+use mathlib.Core.Path.{_≡_, sym, _∙_}
+use mathlib.Core.Bool.{true}
+use lib.ListN.{getD}
+use borrow.Author.Needs.{needs}
+use Rattle.theory.specs.Answers.{refused, accepted}
+use Rattle.arrange.specs.Checked.{threeAllowed, three-keyed, on-three}
+use Rattle.arrange.proofs.check.three.Statement.{statement}
+use Rattle.arrange.proofs.check.three.Tie as tie
+
+shared-slice-read-p : tie.Need-shared-slice-read-p
+shared-slice-read-p c = search needs
+
+shared-slice-read-q : tie.Need-shared-slice-read-q
+shared-slice-read-q c = search needs
+
+shared-slice-read-r : tie.Need-shared-slice-read-r
+shared-slice-read-r c = search needs
+
+three-allowed-requires : tie.Need-three-allowed-requires
+three-allowed-requires c κs = search needs
+
+returns : tie.Need-returns
+returns c =
+    let b = c .before .before .before .before .before .before in
+    sym (on-three (b .pre .0) (b .args .order .now) (b .pre .1) ∙ rw (refused (c .before .three-allowed .ensures) (c .if1 .taken)))
+
+all-allowed : (c : tie.Else1) → (let a = c .before .before .before .before .before .before .args in
+    let run = a .order .now in
+    threeAllowed (a .k) (a .m) (a .points .now) (a .least .now) (a .end .now) (getD run 1 0) (getD run 0 0) (getD run 2 0) ≡ true)
+all-allowed c = accepted (c .before .three-allowed .ensures) (c .if1 .left)
+
+key-requires : tie.Need-key-requires
+key-requires c κs = three-keyed (c .before .before .before .before .before .before .pre .0) _ _ _ (all-allowed c) .0
+
+key-requires-2 : tie.Need-key-requires-2
+key-requires-2 c κs = three-keyed (c .before .before .before .before .before .before .before .pre .0) _ _ _ (all-allowed (c .before)) .1
+
+key-requires-3 : tie.Need-key-requires-3
+key-requires-3 c κs = three-keyed (c .before .before .before .before .before .before .before .before .pre .0) _ _ _ (all-allowed (c .before .before)) .2
+
+returns-2 : tie.Need-returns-2
+returns-2 c =
+    let b = c .before .before .before .before .before .before .before .before .before in
+    rw (c .before .before .key .ensures, c .before .key2 .ensures, c .key3 .ensures)
+    (sym (on-three (b .pre .0) (b .args .order .now) (b .pre .1) ∙ rw (all-allowed (c .before .before .before))))
+
+pub three-spec : {M : Type 1} → statement M
+three-spec =
+    tie.close
+    (tie.spec
+    shared-slice-read-p
+    shared-slice-read-q
+    shared-slice-read-r
+    three-allowed-requires
+    returns
+    key-requires
+    key-requires-2
+    key-requires-3
+    returns-2)

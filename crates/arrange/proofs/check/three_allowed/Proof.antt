@@ -1,0 +1,147 @@
+-- The test of three numbers against the bounds. The loop's invariant: on every dimension passed the three keys lie within. It ends at k, which
+-- is four at most; the measure is the turns left of four.
+use mathlib.Core.Path.{_≡_, sym}
+use mathlib.Core.Bool.{Bool, true, _&&_}
+use Prim.Native.Nat.{ℕ, _-_, _≤_, _<_}
+use native.Mathlib.Omega.{arith}
+use borrow.Author.Count.{below-more}
+use Rattle.terms.specs.Points.{below}
+use Rattle.theory.specs.Answers.{refused, accepted}
+use Rattle.arrange.specs.Key.{keyOf, Keyed}
+use Rattle.arrange.specs.Allowed.{isWithin, allThree, EachOfThree, each-of-three, not-belonging, not-within, all-within}
+use Rattle.arrange.specs.Checked.{threeAllowed, keyed}
+use Rattle.arrange.proofs.check.three_allowed.Statement.{statement}
+use Rattle.arrange.proofs.check.three_allowed.Tie as tie
+
+abbrev Inv-loop : tie.InvT-loop
+Inv-loop k m points least end p q r d₀ d =
+    (d ≤ k) × ((i : ℕ) → i < d → allThree (λ n. isWithin least end i (keyOf k points i n)) p q r ≡ true)
+
+abbrev μ-loop : tie.MeasureT-loop
+μ-loop k m points least end p q r d₀ d = 4 - d
+
+belongs-requires : tie.Need-belongs-requires Inv-loop μ-loop
+belongs-requires c κs = tt
+
+belongs-requires-2 : tie.Need-belongs-requires-2 Inv-loop μ-loop
+belongs-requires-2 c κs = tt
+
+belongs-requires-3 : tie.Need-belongs-requires-3 Inv-loop μ-loop
+belongs-requires-3 c κs = tt
+
+-- The three calls together ask whether all three numbers belong.
+all-belong : (c : tie.After-belongs3 Inv-loop μ-loop) → (let a = c .before .before .before .args in
+    c .before .before .belongs .result && c .before .belongs2 .result && c .belongs3 .result ≡ allThree (below (a .m)) (a .p) (a .q) (a .r))
+all-belong c = rw (c .before .before .belongs .ensures, c .before .belongs2 .ensures, c .belongs3 .ensures)
+
+belonging : (c : tie.Else1 Inv-loop μ-loop) → (let a = c .before .before .before .before .args in
+    allThree (below (a .m)) (a .p) (a .q) (a .r) ≡ true)
+belonging c = accepted (all-belong (c .before)) (c .if1 .left)
+
+returns : tie.Need-returns Inv-loop μ-loop
+returns c = sym (not-belonging _ _ _ _ _ _ _ _ (refused (all-belong (c .before)) (c .if1 .taken)))
+
+loop-holds : tie.Need-loop-holds Inv-loop μ-loop
+loop-holds c = (omega arith, λ i l. absurd (omega arith))
+
+-- Once all k dimensions are passed the three are allowed.
+passed : (c : tie.At-loop Inv-loop μ-loop) → (let a = c .before .before .before .before .before .args in
+    a .k ≤ c .loop .d → threeAllowed (a .k) (a .m) (a .points .now) (a .least .now) (a .end .now) (a .p) (a .q) (a .r) ≡ true)
+passed c h = all-within _ _ _ _ _ _ _ _ (belonging (c .before)) (λ d l. c .loop .inv .1 d (omega arith))
+
+returns-2 : tie.Need-returns-2 Inv-loop μ-loop
+returns-2 c = sym (passed (c .before .before) (c .if2 .taken))
+
+mul-l : tie.Need-mul-l Inv-loop μ-loop
+mul-l c = omega (arith, c .before .loop-test .taken)
+
+element-copy-out-l : tie.Need-element-copy-out-l Inv-loop μ-loop
+element-copy-out-l c = omega (arith, c .before .loop-test .taken)
+
+mul-e : tie.Need-mul-e Inv-loop μ-loop
+mul-e c = omega (arith, c .before .before .loop-test .taken)
+
+element-copy-out-e : tie.Need-element-copy-out-e Inv-loop μ-loop
+element-copy-out-e c = omega (arith, c .before .before .loop-test .taken)
+
+-- A number that belongs has a key on the turn's dimension.
+each-belongs : (c : tie.Else2 Inv-loop μ-loop) → (let a = c .before .before .before .before .before .before .before .args in
+    EachOfThree (below (a .m)) (a .p) (a .q) (a .r))
+each-belongs c = each-of-three _ _ _ _ (belonging (c .before .before .before))
+
+has-key : (c : tie.Else2 Inv-loop μ-loop) (n : ℕ) → (let a = c .before .before .before .before .before .before .before .args in
+    below (a .m) n ≡ true → Keyed (a .k) (a .points .now) (c .before .before .loop .d) n)
+has-key c n e = keyed (c .before .before .before .before .before .before .before .pre) (c .before .before .loop .d) n (c .if2 .left) e
+
+key-requires : tie.Need-key-requires Inv-loop μ-loop
+key-requires c κs =
+    let e = c .before .before in
+    has-key e (e .before .before .before .before .before .before .before .args .p) (each-belongs e .first)
+
+key-requires-2 : tie.Need-key-requires-2 Inv-loop μ-loop
+key-requires-2 c κs =
+    let e = c .before .before .before in
+    has-key e (e .before .before .before .before .before .before .before .args .q) (each-belongs e .second)
+
+key-requires-3 : tie.Need-key-requires-3 Inv-loop μ-loop
+key-requires-3 c κs =
+    let e = c .before .before .before .before in
+    has-key e (e .before .before .before .before .before .before .before .args .r) (each-belongs e .third)
+
+-- What a turn asks of the three numbers, and that its test of their keys answers it.
+abbrev asked : tie.After-key3 Inv-loop μ-loop → Bool
+asked c =
+    let e = c .before .before .before .before .before in
+    let a = e .before .before .before .before .before .before .before .args in
+    let d = e .before .before .loop .d in
+    allThree (λ n. isWithin (a .least .now) (a .end .now) d (keyOf (a .k) (a .points .now) d n)) (a .p) (a .q) (a .r)
+
+turn : (c : tie.After-key3 Inv-loop μ-loop) → (let e = c .before .before .before .before .before in
+    let a = e .before .before .before .before .before .before .before .args in
+    let d = e .before .before .loop .d in
+    allThree (isWithin (a .least .now) (a .end .now) d) (c .before .before .key .result) (c .before .key2 .result) (c .key3 .result) ≡ asked c)
+turn c = rw (c .before .before .key .ensures, c .before .key2 .ensures, c .key3 .ensures)
+
+returns-3 : tie.Need-returns-3 Inv-loop μ-loop
+returns-3 c =
+    let e = c .before .before .before .before .before .before in
+    sym (not-within _ _ _ _ _ _ _ _ (e .before .before .loop .d) (e .if2 .left) (refused (turn (c .before)) (c .if3 .taken)))
+
+add-d : tie.Need-add-d Inv-loop μ-loop
+add-d c = omega (arith, c .before .before .before .before .before .before .before .loop-test .taken)
+
+loop-less : tie.Need-loop-less Inv-loop μ-loop
+loop-less c = omega (arith, c .before .before .before .before .before .before .before .loop-test .taken)
+
+loop-again : tie.Need-loop-again Inv-loop μ-loop
+loop-again c =
+    let e = c .before .before .before .before .before .before in
+    (omega (arith, e .if2 .left), below-more _ _ (e .before .before .loop .inv .1) (accepted (turn (c .before)) (c .if3 .left)))
+
+returns-4 : tie.Need-returns-4 Inv-loop μ-loop
+returns-4 c = sym (passed (c .before) (omega (arith, c .before .before .before .before .before .before .pre)))
+
+pub three-allowed-spec : {M : Type 1} → statement M
+three-allowed-spec =
+    tie.close
+    (tie.spec
+    Inv-loop
+    μ-loop
+    belongs-requires
+    belongs-requires-2
+    belongs-requires-3
+    returns
+    loop-holds
+    returns-2
+    mul-l
+    element-copy-out-l
+    mul-e
+    element-copy-out-e
+    key-requires
+    key-requires-2
+    key-requires-3
+    returns-3
+    add-d
+    loop-less
+    loop-again
+    returns-4)
