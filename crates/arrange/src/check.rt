@@ -1,5 +1,6 @@
 // The checker: whether an order is the tree of its points, by one descent and no memory besides the stack.
-// A run of three slots at most is decided at once, with no bounds copied; most slots of a shelf stand in such runs.
+// It carries by value, for each dimension, the least key allowed and the first not allowed. A run of three slots at most is decided at once;
+// most slots of a shelf stand in such runs.
 use crate::axis::next_axis;
 use crate::belongs::belongs;
 use crate::key::key;
@@ -17,14 +18,14 @@ fn three_allowed(
     k: usize,
     m: usize,
     points: &[i32],
-    least: &[u32; 4],
-    end: &[u32; 4],
+    least: [u32; 4],
+    end: [u32; 4],
     p: u32,
     q: u32,
     r: u32,
 ) -> bool
     requires { ⌜ TestedPoints k m (now points) ⌝ }
-    ensures { λ t. ⌜ t ≡ threeAllowed k m (now (points .entry)) (now (least .entry)) (now (end .entry)) p q r ⌝ }
+    ensures { λ t. ⌜ t ≡ threeAllowed k m (now (points .entry)) least end p q r ⌝ }
 {
     if !(belongs(m, p) & belongs(m, q) & belongs(m, r)) {
         return false;
@@ -48,9 +49,9 @@ fn three_allowed(
 }
 
 // The same of one number.
-fn allowed(k: usize, m: usize, points: &[i32], least: &[u32; 4], end: &[u32; 4], p: u32) -> bool
+fn allowed(k: usize, m: usize, points: &[i32], least: [u32; 4], end: [u32; 4], p: u32) -> bool
     requires { ⌜ TestedPoints k m (now points) ⌝ }
-    ensures { λ r. ⌜ r ≡ numberAllowed k m (now (points .entry)) (now (least .entry)) (now (end .entry)) p ⌝ }
+    ensures { λ r. ⌜ r ≡ numberAllowed k m (now (points .entry)) least end p ⌝ }
 {
     three_allowed(k, m, points, least, end, p, p, p)
 }
@@ -62,12 +63,12 @@ fn few(
     points: &[i32],
     order: &[u32],
     s: usize,
-    least: &[u32; 4],
-    end: &[u32; 4],
+    least: [u32; 4],
+    end: [u32; 4],
 ) -> bool
-    requires { ⌜ Descends k m (now points) s (now least) (now end) ⌝ }
+    requires { ⌜ Descends k m (now points) s least end ⌝ }
     requires { ⌜ length (now order) < 3 ⌝ }
-    ensures { λ r. ⌜ r ≡ branchAllowed k m (now (points .entry)) (now (least .entry)) (now (end .entry)) s (now (order .entry)) ⌝ }
+    ensures { λ r. ⌜ r ≡ branchAllowed k m (now (points .entry)) least end s (now (order .entry)) ⌝ }
 {
     let c = order.len();
     if c == 0 {
@@ -91,12 +92,12 @@ fn three(
     points: &[i32],
     order: &[u32],
     s: usize,
-    least: &[u32; 4],
-    end: &[u32; 4],
+    least: [u32; 4],
+    end: [u32; 4],
 ) -> bool
-    requires { ⌜ Descends k m (now points) s (now least) (now end) ⌝ }
+    requires { ⌜ Descends k m (now points) s least end ⌝ }
     requires { ⌜ length (now order) ≡ 3 ⌝ }
-    ensures { λ r. ⌜ r ≡ branchAllowed k m (now (points .entry)) (now (least .entry)) (now (end .entry)) s (now (order .entry)) ⌝ }
+    ensures { λ r. ⌜ r ≡ branchAllowed k m (now (points .entry)) least end s (now (order .entry)) ⌝ }
 {
     let p = order[1];
     let q = order[0];
@@ -115,11 +116,11 @@ fn branch(
     points: &[i32],
     order: &[u32],
     s: usize,
-    least: &[u32; 4],
-    end: &[u32; 4],
+    least: [u32; 4],
+    end: [u32; 4],
 ) -> bool
-    requires { ⌜ Descends k m (now points) s (now least) (now end) ⌝ }
-    ensures { λ r. ⌜ r ≡ branchAllowed k m (now (points .entry)) (now (least .entry)) (now (end .entry)) s (now (order .entry)) ⌝ }
+    requires { ⌜ Descends k m (now points) s least end ⌝ }
+    ensures { λ r. ⌜ r ≡ branchAllowed k m (now (points .entry)) least end s (now (order .entry)) ⌝ }
 {
     let c = order.len();
     if c == 3 {
@@ -132,19 +133,19 @@ fn branch(
 }
 
 // The same of a run that is not empty: its node is allowed, and its branches have its bounds with one replaced: on s the left branch
-// ends at the node's key, the right branch starts after it. Only the row with that bound is copied.
+// ends at the node's key, the right branch starts after it.
 fn node(
     k: usize,
     m: usize,
     points: &[i32],
     order: &[u32],
     s: usize,
-    least: &[u32; 4],
-    end: &[u32; 4],
+    least: [u32; 4],
+    end: [u32; 4],
 ) -> bool
-    requires { ⌜ Descends k m (now points) s (now least) (now end) ⌝ }
+    requires { ⌜ Descends k m (now points) s least end ⌝ }
     requires { ⌜ 0 < length (now order) ⌝ }
-    ensures { λ r. ⌜ r ≡ branchAllowed k m (now (points .entry)) (now (least .entry)) (now (end .entry)) s (now (order .entry)) ⌝ }
+    ensures { λ r. ⌜ r ≡ branchAllowed k m (now (points .entry)) least end s (now (order .entry)) ⌝ }
 {
     let h = order.len() / 2;
     let p = order[h];
@@ -153,15 +154,15 @@ fn node(
     }
     let x = key(points, k, s, p);
     let n = next_axis(k, s);
-    let mut left_end = *end;
+    let mut left_end = end;
     left_end[s] = x;
-    if !branch(k, m, points, &order[0..h], n, least, &left_end) {
+    if !branch(k, m, points, &order[0..h], n, least, left_end) {
         return false;
     }
-    let mut right_least = *least;
+    let mut right_least = least;
     right_least[s] = x + 1;
     let r = h + 1;
-    branch(k, m, points, &order[r..], n, &right_least, end)
+    branch(k, m, points, &order[r..], n, right_least, end)
 }
 
 // Whether the order is the tree of the m numbers: the descent from the root, where every key is allowed.
@@ -175,5 +176,5 @@ pub fn check(k: usize, m: usize, points: &[i32], order: &[u32]) -> bool
     }
     let least = [0; 4];
     let end = [4294967295; 4];
-    node(k, m, points, order, 0, &least, &end)
+    node(k, m, points, order, 0, least, end)
 }

@@ -41,19 +41,19 @@ lent-left run = ap (λ (i : ℕ). take i run) (sub-zero (middle (length run)))
 lent-right : (run : List ℕ) → take (length run - (middle (length run) + 1)) (drop (middle (length run) + 1) run) ≡ rights run
 lent-right run = take-all (length run - (middle (length run) + 1)) (rights run) (omega (arith, right-length run))
 
-abbrev μ-branch : Measures 4 branch-kinds.ps ℕ
+abbrev μ-branch : Measures 2 branch-kinds.ps ℕ
 μ-branch κs a = 2 * length (a .1 .1 .1 .0 .now) + 1
 
-abbrev μ-node : Measures 4 node-kinds.ps ℕ
+abbrev μ-node : Measures 2 node-kinds.ps ℕ
 μ-node κs a = 2 * length (a .1 .1 .1 .0 .now)
 
 -- A branch.
 module _ (t : ℕ) where
-  abbrev branch-at : In 4 branch-kinds.ps
-  branch-at = and 4 branch-kinds.ps (is 4 branch-kinds.ps μ-branch t) branch-reads.Pre
+  abbrev branch-at : In 2 branch-kinds.ps
+  branch-at = and 2 branch-kinds.ps (is 2 branch-kinds.ps μ-branch t) branch-reads.Pre
 
-  abbrev node-below : In 4 node-kinds.ps
-  node-below = and 4 node-kinds.ps (falls 4 node-kinds.ps _<_ μ-node t) node-reads.Pre
+  abbrev node-below : In 2 node-kinds.ps
+  node-below = and 2 node-kinds.ps (falls 2 node-kinds.ps _<_ μ-node t) node-reads.Pre
 
   -- What the calls ask and tell.
   abbrev branch-calls : branch-lts.Claims
@@ -81,11 +81,11 @@ module _ (t : ℕ) where
 
 -- A node.
 module _ (t : ℕ) where
-  abbrev at : In 4 node-kinds.ps
-  at = and 4 node-kinds.ps (is 4 node-kinds.ps μ-node t) node-reads.Pre
+  abbrev at : In 2 node-kinds.ps
+  at = and 2 node-kinds.ps (is 2 node-kinds.ps μ-node t) node-reads.Pre
 
-  abbrev branch-below : In 4 branch-kinds.ps
-  branch-below = and 4 branch-kinds.ps (falls 4 branch-kinds.ps _<_ μ-branch t) branch-reads.Pre
+  abbrev branch-below : In 2 branch-kinds.ps
+  branch-below = and 2 branch-kinds.ps (falls 2 branch-kinds.ps _<_ μ-branch t) branch-reads.Pre
 
   -- What the calls ask and tell.
   abbrev calls : node-lts.Claims
@@ -105,7 +105,7 @@ module _ (t : ℕ) where
   answer b = branchAllowed (b .args .k) (b .args .m) (b .args .points .now)
 
   abbrev test : node-lts.Start calls at node-reads.Post → ℕ → Bool
-  test b = numberAllowed (b .args .k) (b .args .m) (b .args .points .now) (b .args .least .now) (b .args .end .now)
+  test b = numberAllowed (b .args .k) (b .args .m) (b .args .points .now) (b .args .least) (b .args .end)
 
   mul-p : node-lts.Need-mul-p calls at node-reads.Post
   mul-p c = omega arith
@@ -142,18 +142,18 @@ module _ (t : ℕ) where
   on-left c =
       let b = c .before .before .before .before .before .before in
       let run = b .args .order .now in
-      answer b (b .args .least .now) (set (b .args .end .now) (b .args .s) (c .before .key .result)) (c .next-axis .result) (take (length run / 2 - 0) run)
+      answer b (b .args .least) (set (b .args .end) (b .args .s) (c .before .key .result)) (c .next-axis .result) (take (length run / 2 - 0) run)
 
   abbrev on-right : node-lts.After-next-axis calls at node-reads.Post → Bool
   on-right c =
       let b = c .before .before .before .before .before .before in
       let run = b .args .order .now in
       let part = take (length run - (length run / 2 + 1)) (drop (length run / 2 + 1) run) in
-      answer b (set (b .args .least .now) (b .args .s) (c .before .key .result + 1)) (b .args .end .now) (c .next-axis .result) part
+      answer b (set (b .args .least) (b .args .s) (c .before .key .result + 1)) (b .args .end) (c .next-axis .result) part
 
   -- The run's answer by theirs.
   step : (c : node-lts.After-next-axis calls at node-reads.Post) → (let b = c .before .before .before .before .before .before in
-      answer b (b .args .least .now) (b .args .end .now) (b .args .s) (b .args .order .now) ≡ (on-left c && on-right c))
+      answer b (b .args .least) (b .args .end) (b .args .s) (b .args .order .now) ≡ (on-left c && on-right c))
   step c =
       let b = c .before .before .before .before .before .before in
       let a = b .args in
@@ -164,8 +164,8 @@ module _ (t : ℕ) where
       (below (a .m))
       (keyOf (a .k) (a .points .now))
       (ordered (p .tested))
-      (a .least .now)
-      (a .end .now)
+      (a .least)
+      (a .end)
       (a .s)
       (c .next-axis .result)
       (a .order .now)
@@ -186,10 +186,10 @@ module _ (t : ℕ) where
       rw (c .next-axis .ensures) (mod-lt (b .args .s + 1) (omega (arith, b .pre .1 .0)))
 
   mul-left-end : node-lts.Need-mul-left-end calls at node-reads.Post
-  mul-left-end c = omega (arith, four (c .before .before .before .before .before .before .before))
+  mul-left-end c = omega (arith, four (c .before .before .before .before .before .before))
 
   write-left-end : node-lts.Need-array-write-left-end calls at node-reads.Post
-  write-left-end c = four (c .before .before .before .before .before .before .before)
+  write-left-end c = four (c .before .before .before .before .before .before)
 
   sub-left : node-lts.Need-sub-branch calls at node-reads.Post
   sub-left c = omega arith
@@ -202,37 +202,37 @@ module _ (t : ℕ) where
 
   left-requires : node-lts.Need-branch-requires calls at node-reads.Post
   left-requires c κs =
-      let b = c .before .before .before .before .before .before .before .before .before in
+      let b = c .before .before .before .before .before .before .before in
       let a = b .args in
       let p = b .pre .1 .0 in (
         omega (arith, b .pre .0, b .pre .1 .1, length-take (length (a .order .now) / 2 - 0) (a .order .now)),
         record {
           tested = p .tested;
-          dimension = next-below (c .before .before .before);
+          dimension = next-below (c .before);
           least-size = p .least-size;
           end-size = rw length-set (p .end-size);
         },
       )
 
-  left-answer : (c : node-lts.After-branch calls at node-reads.Post) → c .branch .result ≡ on-left (c .before .before .before .before)
+  left-answer : (c : node-lts.After-branch calls at node-reads.Post) → c .branch .result ≡ on-left (c .before .before)
   left-answer c = c .branch .ensures
 
   returns-2 : node-lts.Need-returns-2 calls at node-reads.Post
-  returns-2 c = sym (step (c .before .before .before .before .before) ∙ rw (refused (left-answer (c .before)) (c .if2 .taken)))
+  returns-2 c = sym (step (c .before .before .before) ∙ rw (refused (left-answer (c .before)) (c .if2 .taken)))
 
   add-right-least : node-lts.Need-add-right-least calls at node-reads.Post
   add-right-least c =
-      let e = c .before .before .before .before .before .before .before in
+      let e = c .before .before .before .before in
       let b = e .before .before .before .before .before in
       let p = b .pre .1 .0 in
       let small = key-below-last (p .tested) (b .args .s) (node (b .args .order .now)) (p .dimension) (node-belongs (e .before)) in
       omega (arith, e .key .ensures, small)
 
   mul-right-least : node-lts.Need-mul-right-least calls at node-reads.Post
-  mul-right-least c = omega (arith, four (c .before .before .before .before .before .before .before .before .before .before .before .before))
+  mul-right-least c = omega (arith, four (c .before .before .before .before .before .before .before .before .before))
 
   write-right-least : node-lts.Need-array-write-right-least calls at node-reads.Post
-  write-right-least c = four (c .before .before .before .before .before .before .before .before .before .before .before .before)
+  write-right-least c = four (c .before .before .before .before .before .before .before .before .before)
 
   add-r : node-lts.Need-add-r calls at node-reads.Post
   add-r c = omega arith
@@ -241,37 +241,37 @@ module _ (t : ℕ) where
   mul-right c = omega arith
 
   sub-right : node-lts.Need-sub-branch-2 calls at node-reads.Post
-  sub-right c = omega (arith, c .before .before .before .before .before .before .before .before .before .before .before .before .pre .1 .1)
+  sub-right c = omega (arith, c .before .before .before .before .before .before .before .before .before .pre .1 .1)
 
   right-start : node-lts.Need-part-branch-start-2 calls at node-reads.Post
-  right-start c = omega (arith, c .before .before .before .before .before .before .before .before .before .before .before .before .pre .1 .1)
+  right-start c = omega (arith, c .before .before .before .before .before .before .before .before .before .pre .1 .1)
 
   right-stop : node-lts.Need-part-branch-end-2 calls at node-reads.Post
   right-stop c = omega arith
 
   right-requires : node-lts.Need-branch-requires-2 calls at node-reads.Post
   right-requires c κs =
-      let b = c .before .before .before .before .before .before .before .before .before .before .before .before .before .before in
+      let b = c .before .before .before .before .before .before .before .before .before .before in
       let a = b .args in
       let p = b .pre .1 .0 in
       let h : ℕ = length (a .order .now) / 2 in (
         omega (arith, b .pre .0, b .pre .1 .1, length-take (length (a .order .now) - (h + 1)) (drop (h + 1) (a .order .now))),
         record {
           tested = p .tested;
-          dimension = next-below (c .before .before .before .before .before .before .before .before);
+          dimension = next-below (c .before .before .before .before);
           least-size = rw length-set (p .least-size);
           end-size = p .end-size;
         },
       )
 
   right-answer : (c : node-lts.After-branch2 calls at node-reads.Post)
-      → c .branch2 .result ≡ on-right (c .before .before .before .before .before .before .before .before .before)
+      → c .branch2 .result ≡ on-right (c .before .before .before .before .before)
   right-answer c = c .branch2 .ensures
 
   returns-3 : node-lts.Need-returns-3 calls at node-reads.Post
   returns-3 c =
-      let left-yes = accepted (left-answer (c .before .before .before .before .before)) (c .before .before .before .before .if2 .left) in
-      right-answer c ∙ sym (step (c .before .before .before .before .before .before .before .before .before) ∙ rw left-yes)
+      let left-yes = accepted (left-answer (c .before .before .before)) (c .before .before .if2 .left) in
+      right-answer c ∙ sym (step (c .before .before .before .before .before) ∙ rw left-yes)
 
 pub +branch+node-spec : {M : Type 1} → statement M
 +branch+node-spec = close μ-branch μ-node (λ t. branch-lts.spec

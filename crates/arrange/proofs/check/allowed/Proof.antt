@@ -16,7 +16,7 @@ three-allowed-requires c κs = search needs
 returns : tie.Need-returns
 returns c =
     let a = c .before .args in
-    c .three-allowed .ensures ∙ thrice (numberAllowed (a .k) (a .m) (a .points .now) (a .least .now) (a .end .now) (a .p))
+    c .three-allowed .ensures ∙ thrice (numberAllowed (a .k) (a .m) (a .points .now) (a .least) (a .end) (a .p))
 
 pub allowed-spec : {M : Type 1} → statement M
 allowed-spec = tie.close (tie.spec three-allowed-requires returns)

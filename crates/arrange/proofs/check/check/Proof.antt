@@ -16,13 +16,13 @@ node-requires : tie.Need-node-requires
 node-requires c κs = search needs
 
 -- The answer of the descent from the root.
-from-root : (c : tie.After-node) → (let a = c .before .before .before .before .before .args in
+from-root : (c : tie.After-node) → (let a = c .before .before .before .args in
     c .node .result ≡ branchAllowed (a .k) (a .m) (a .points .now) (replicate 4 0) (replicate 4 4294967295) 0 (a .order .now))
 from-root c = c .node .ensures
 
 returns-2 : tie.Need-returns-2
 returns-2 c =
-    let b = c .before .before .before .before .before in
+    let b = c .before .before .before in
     from-root c ∙ root-answer (b .pre .0) (b .args .order .now) (b .pre .1)
 
 pub check-spec : {M : Type 1} → statement M

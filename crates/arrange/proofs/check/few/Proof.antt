@@ -40,7 +40,7 @@ returns-3 c =
 
 both-allowed : (c : tie.Else3) → (let a = c .before .before .before .before .before .before .before .args in
     let run = a .order .now in
-    threeAllowed (a .k) (a .m) (a .points .now) (a .least .now) (a .end .now) (getD run 1 0) (getD run 0 0) (getD run 0 0) ≡ true)
+    threeAllowed (a .k) (a .m) (a .points .now) (a .least) (a .end) (getD run 1 0) (getD run 0 0) (getD run 0 0) ≡ true)
 both-allowed c = accepted (c .before .three-allowed .ensures) (c .if3 .left)
 
 key-requires : tie.Need-key-requires

@@ -27,7 +27,7 @@ returns c =
 
 all-allowed : (c : tie.Else1) → (let a = c .before .before .before .before .before .before .args in
     let run = a .order .now in
-    threeAllowed (a .k) (a .m) (a .points .now) (a .least .now) (a .end .now) (getD run 1 0) (getD run 0 0) (getD run 2 0) ≡ true)
+    threeAllowed (a .k) (a .m) (a .points .now) (a .least) (a .end) (getD run 1 0) (getD run 0 0) (getD run 2 0) ≡ true)
 all-allowed c = accepted (c .before .three-allowed .ensures) (c .if1 .left)
 
 key-requires : tie.Need-key-requires

@@ -14,11 +14,11 @@ use Rattle.arrange.proofs.check.three_allowed.Statement.{statement}
 use Rattle.arrange.proofs.check.three_allowed.Tie as tie
 
 abbrev Inv-loop : tie.InvT-loop
-Inv-loop k m points least end p q r d₀ d =
+Inv-loop k m points p q r least end d₀ d =
     (d ≤ k) × ((i : ℕ) → i < d → allThree (λ n. isWithin least end i (keyOf k points i n)) p q r ≡ true)
 
 abbrev μ-loop : tie.MeasureT-loop
-μ-loop k m points least end p q r d₀ d = 4 - d
+μ-loop k m points p q r least end d₀ d = 4 - d
 
 belongs-requires : tie.Need-belongs-requires Inv-loop μ-loop
 belongs-requires c κs = tt
@@ -46,7 +46,7 @@ loop-holds c = (omega arith, λ i l. absurd (omega arith))
 
 -- Once all k dimensions are passed the three are allowed.
 passed : (c : tie.At-loop Inv-loop μ-loop) → (let a = c .before .before .before .before .before .args in
-    a .k ≤ c .loop .d → threeAllowed (a .k) (a .m) (a .points .now) (a .least .now) (a .end .now) (a .p) (a .q) (a .r) ≡ true)
+    a .k ≤ c .loop .d → threeAllowed (a .k) (a .m) (a .points .now) (a .t4) (a .t5) (a .p) (a .q) (a .r) ≡ true)
 passed c h = all-within _ _ _ _ _ _ _ _ (belonging (c .before)) (λ d l. c .loop .inv .1 d (omega arith))
 
 returns-2 : tie.Need-returns-2 Inv-loop μ-loop
@@ -55,14 +55,14 @@ returns-2 c = sym (passed (c .before .before) (c .if2 .taken))
 mul-l : tie.Need-mul-l Inv-loop μ-loop
 mul-l c = omega (arith, c .before .loop-test .taken)
 
-element-copy-out-l : tie.Need-element-copy-out-l Inv-loop μ-loop
-element-copy-out-l c = omega (arith, c .before .loop-test .taken)
+array-read-l : tie.Need-array-read-l Inv-loop μ-loop
+array-read-l c = omega (arith, c .before .loop-test .taken)
 
 mul-e : tie.Need-mul-e Inv-loop μ-loop
-mul-e c = omega (arith, c .before .before .loop-test .taken)
+mul-e c = omega (arith, c .before .loop-test .taken)
 
-element-copy-out-e : tie.Need-element-copy-out-e Inv-loop μ-loop
-element-copy-out-e c = omega (arith, c .before .before .loop-test .taken)
+array-read-e : tie.Need-array-read-e Inv-loop μ-loop
+array-read-e c = omega (arith, c .before .loop-test .taken)
 
 -- A number that belongs has a key on the turn's dimension.
 each-belongs : (c : tie.Else2 Inv-loop μ-loop) → (let a = c .before .before .before .before .before .before .before .args in
@@ -74,48 +74,46 @@ has-key : (c : tie.Else2 Inv-loop μ-loop) (n : ℕ) → (let a = c .before .bef
 has-key c n e = keyed (c .before .before .before .before .before .before .before .pre) (c .before .before .loop .d) n (c .if2 .left) e
 
 key-requires : tie.Need-key-requires Inv-loop μ-loop
-key-requires c κs =
-    let e = c .before .before in
-    has-key e (e .before .before .before .before .before .before .before .args .p) (each-belongs e .first)
+key-requires c κs = has-key c (c .before .before .before .before .before .before .before .args .p) (each-belongs c .first)
 
 key-requires-2 : tie.Need-key-requires-2 Inv-loop μ-loop
 key-requires-2 c κs =
-    let e = c .before .before .before in
+    let e = c .before in
     has-key e (e .before .before .before .before .before .before .before .args .q) (each-belongs e .second)
 
 key-requires-3 : tie.Need-key-requires-3 Inv-loop μ-loop
 key-requires-3 c κs =
-    let e = c .before .before .before .before in
+    let e = c .before .before in
     has-key e (e .before .before .before .before .before .before .before .args .r) (each-belongs e .third)
 
 -- What a turn asks of the three numbers, and that its test of their keys answers it.
 abbrev asked : tie.After-key3 Inv-loop μ-loop → Bool
 asked c =
-    let e = c .before .before .before .before .before in
+    let e = c .before .before .before in
     let a = e .before .before .before .before .before .before .before .args in
     let d = e .before .before .loop .d in
-    allThree (λ n. isWithin (a .least .now) (a .end .now) d (keyOf (a .k) (a .points .now) d n)) (a .p) (a .q) (a .r)
+    allThree (λ n. isWithin (a .t4) (a .t5) d (keyOf (a .k) (a .points .now) d n)) (a .p) (a .q) (a .r)
 
-turn : (c : tie.After-key3 Inv-loop μ-loop) → (let e = c .before .before .before .before .before in
+turn : (c : tie.After-key3 Inv-loop μ-loop) → (let e = c .before .before .before in
     let a = e .before .before .before .before .before .before .before .args in
     let d = e .before .before .loop .d in
-    allThree (isWithin (a .least .now) (a .end .now) d) (c .before .before .key .result) (c .before .key2 .result) (c .key3 .result) ≡ asked c)
+    allThree (isWithin (a .t4) (a .t5) d) (c .before .before .key .result) (c .before .key2 .result) (c .key3 .result) ≡ asked c)
 turn c = rw (c .before .before .key .ensures, c .before .key2 .ensures, c .key3 .ensures)
 
 returns-3 : tie.Need-returns-3 Inv-loop μ-loop
 returns-3 c =
-    let e = c .before .before .before .before .before .before in
+    let e = c .before .before .before .before in
     sym (not-within _ _ _ _ _ _ _ _ (e .before .before .loop .d) (e .if2 .left) (refused (turn (c .before)) (c .if3 .taken)))
 
 add-d : tie.Need-add-d Inv-loop μ-loop
-add-d c = omega (arith, c .before .before .before .before .before .before .before .loop-test .taken)
+add-d c = omega (arith, c .before .before .before .before .before .loop-test .taken)
 
 loop-less : tie.Need-loop-less Inv-loop μ-loop
-loop-less c = omega (arith, c .before .before .before .before .before .before .before .loop-test .taken)
+loop-less c = omega (arith, c .before .before .before .before .before .loop-test .taken)
 
 loop-again : tie.Need-loop-again Inv-loop μ-loop
 loop-again c =
-    let e = c .before .before .before .before .before .before in
+    let e = c .before .before .before .before in
     (omega (arith, e .if2 .left), below-more _ _ (e .before .before .loop .inv .1) (accepted (turn (c .before)) (c .if3 .left)))
 
 returns-4 : tie.Need-returns-4 Inv-loop μ-loop
@@ -134,9 +132,9 @@ three-allowed-spec =
     loop-holds
     returns-2
     mul-l
-    element-copy-out-l
+    array-read-l
     mul-e
-    element-copy-out-e
+    array-read-e
     key-requires
     key-requires-2
     key-requires-3
