@@ -1,8 +1,8 @@
 -- Ranges of numbers: at most ten digits and 32 signed bits each are a range; a number within one has its place; and range tests of a list are tests of
 -- its parts.
-use mathlib.Core.Path.{_≡_, refl}
+use mathlib.Core.Path.{_≡_, sym, _∙_}
 use mathlib.Core.Bool.{Bool, true}
-use mathlib.Core.List.{List, [], _∷_, _++_}
+use mathlib.Core.List.{List, _++_}
 use Prim.Native.Nat.{ℕ, _^_, _≤_, _<_}
 use native.Mathlib.Nat.{pow-le-pow-right}
 use native.Mathlib.Omega.{arith}
@@ -17,6 +17,7 @@ use Rattle.whole.specs.Parts.{flags, abs-parts}
 use Rattle.whole.specs.Fits.{sfits-mag, widen}
 use Rattle.terms.specs.Tests.{every}
 use Rattle.theory.specs.Flags.{and-true, true-and}
+use Rattle.theory.specs.Counting.{every-append}
 use Rattle.text.specs.Decimal.{decimal}
 use Rattle.text.specs.DecimalLaws.{decimal-all-digits, decimal-length, value-bound, value-decimal}
 use Rattle.text.specs.Input.{isSigned32, isShort}
@@ -70,14 +71,7 @@ signed-back z r = rw (toZ-ofZ (widen (signed-fits z r)), toZ-ofZ (signed-fits z 
 
 -- ---- tests of a whole list
 pub parts-every : {A : Type 0} (test : A → Bool) (xs ys : List A) → every test xs ≡ true → every test ys ≡ true → every test (xs ++ ys) ≡ true
-unfolding every
-parts-every test [] ys p q = q
-parts-every test (x ∷ xs) ys p q = let s = and-true (test x) p in true-and (s .0) (parts-every test xs ys (s .1) q)
+parts-every test xs ys p q = every-append test xs ys ∙ true-and p q
 
 pub every-parts : {A : Type 0} (test : A → Bool) (xs ys : List A) → every test (xs ++ ys) ≡ true → (every test xs ≡ true) × (every test ys ≡ true)
-unfolding every
-every-parts test [] ys p = (refl, p)
-every-parts test (x ∷ xs) ys p =
-    let s = and-true (test x) p in
-    let t = every-parts test xs ys (s .1) in
-    (true-and (s .0) (t .0), t .1)
+every-parts test xs ys p = and-true (every test xs) (sym (every-append test xs ys) ∙ p)

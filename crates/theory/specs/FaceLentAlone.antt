@@ -1,7 +1,7 @@
 -- A face lent alone: its components and its offset cut out of the lent lists. As a region these are the face taken alone, so its visits are the
 -- same; and where the call on all faces is done, the call on the one is.
 use mathlib.Core.Path.{_≡_, refl, sym, ap, _∙_}
-use mathlib.Core.Bool.{Bool, true, false}
+use mathlib.Core.Bool.{Bool, true}
 use mathlib.Core.List.{List, [], _∷_}
 use Prim.Native.Nat.{ℕ, _+_, _*_, _≤_, _<_}
 use native.Mathlib.Nat.{mul-le-mul-right, suc-mul}
@@ -16,13 +16,13 @@ use Rattle.terms.specs.Tests.{every, count, allTo, anyTo}
 use Rattle.terms.specs.Box.{Box, rootBox, shelfBoxes}
 use Rattle.terms.specs.Region.{region, alone, above, aboveAt, bySign, isSettled, isOpen, isComponent, isOffset}
 use Rattle.terms.specs.Visits.{visits}
-use Rattle.terms.specs.Refusals.{firstOf, listRefusals}
+use Rattle.terms.specs.Refusals.{firstOf}
 use Rattle.terms.specs.Calls.{listCode}
 use Rattle.theory.specs.Flags.{not-false}
 use Rattle.theory.specs.Counting.{every-at, at-every, count-same}
 use Rattle.theory.specs.AboveIsUpward.{above-same-offset, above-alone}
 use Rattle.theory.specs.BoxFuel.{visits-count}
-use Rattle.theory.specs.FirstRefusalIsLowest.{none, list-lowest}
+use Rattle.theory.specs.FirstRefusalIsLowest.{list-lowest}
 
 -- Face i's components, and its offset, as lists of their own.
 abbrev pub faceNormals : ℕ → ℕ → List ℤ → List ℤ
@@ -66,16 +66,12 @@ every-part z test a c xs e = at-every test z (take c (drop a xs))
     rw (getD-take c (drop a xs) i z m, getD-drop a xs i z) (every-at test z xs e (a + i) room))
 
 module _ (k n h : ℕ) (points : List ℤ) (order : List ℕ) (normals offsets : List ℤ) (list : List ℕ) where
-  -- The list call is done: none of its tests holds.
-  pub list-done-none-holds : listCode k n h points order normals offsets list ≡ 0
-      → (t : ℕ) → getD (listRefusals k n h points order normals offsets list) t none .holds ≡ false
-  list-done-none-holds = list-lowest k n h points order normals offsets list .done
-
+  -- Where the list call on all faces is done, so is the one on a face alone.
   pub lent-done : listCode k n h points order normals offsets list ≡ 0 → (i : ℕ) → i < h
       → listCode k n 1 points order (faceNormals k i normals) (faceOffsets i offsets) list ≡ 0
   unfolding listCode firstOf every
   lent-done e i l =
-      let t = list-done-none-holds e in
+      let t = list-lowest k n h points order normals offsets list .done e in
       let size : length normals ≡ k * h = eqb-true (length normals) (k * h) (not-false (eqb (length normals) (k * h)) (t 7)) in
       let count : length offsets ≡ h = eqb-true (length offsets) h (not-false (eqb (length offsets) h) (t 8)) in
       let room : k ≤ length (drop (i * k) normals) = omega (arith, length-drop (i * k) normals, mul-le-mul-right k l, suc-mul i k) in

@@ -8,19 +8,18 @@ use native.Mathlib.Omega.{arith}
 use lib.ListN.{length, take}
 use lib.Seq.{length-take-le}
 use lib.IntN.{ℤ}
-use lib.Dec.{leb}
-use borrow.Author.Tests.{leb-true, ltb-false}
 use Rattle.whole.specs.IndexedTotal.{totalTo, total-same}
 use Rattle.terms.specs.Points.{coord, below}
-use Rattle.terms.specs.Tree.{treeRun, eachOnce, isTree, isShelf}
+use Rattle.terms.specs.Tree.{treeRun, eachOnce, isTree}
 use Rattle.terms.specs.Region.{region, alone}
 use Rattle.terms.specs.Visits.{visits}
 use Rattle.terms.specs.Bound.{S, isSquare}
 use Rattle.terms.specs.Calls.{listCode, listAnswer}
-use Rattle.theory.specs.Flags.{and-true, not-false}
+use Rattle.theory.specs.Flags.{and-true}
+use Rattle.theory.specs.RefusalsPassed.{list-passed}
 use Rattle.theory.specs.SumBound.{visits-le-faces}
 use Rattle.theory.specs.SquareBound.{square-visits-le-S}
-use Rattle.theory.specs.FaceLentAlone.{faceNormals, faceOffsets, lent-visits, list-done-none-holds, lent-done}
+use Rattle.theory.specs.FaceLentAlone.{faceNormals, faceOffsets, lent-visits, lent-done}
 
 -- Done, the call answers the defined count.
 pub done-visits : (k n h : ℕ) (points : List ℤ) (order : List ℕ) (normals offsets : List ℤ) (list : List ℕ)
@@ -62,9 +61,8 @@ module _ (k n h : ℕ) (points : List ℤ) (order : List ℕ) (normals offsets :
       → listAnswer k n h points order normals offsets list .visits ≤ h * S n k
   unfolding isTree
   list-visits-le-S square = visits-le-if-done _ (λ e.
-      let t = list-done-none-holds k n h points order normals offsets list e in
-      let dims = and-true (leb 1 k) (not-false _ (t 0)) in
-      let slots : length (take n order) ≡ n = length-take-le n order (ltb-false (length order) n (t 3)) in
+      let p = list-passed k n h points order normals offsets list e in
+      let slots : length (take n order) ≡ n = length-take-le n order (p .room) in
       let tree : treeRun (length (take n order)) k (coord k points) 0 (take n order) ≡ true =
-      and-true (eachOnce (below n) n (take n order)) (not-false (isShelf k n points order) (t 11)) .1 in
-      rw slots at (square-visits-le-S (region k h normals offsets) (coord k points) (take n order) (leb-true 1 k (dims .0)) tree square))
+      and-true (eachOnce (below n) n (take n order)) (p .shelf) .1 in
+      rw slots at (square-visits-le-S (region k h normals offsets) (coord k points) (take n order) (p .tested .some) tree square))
