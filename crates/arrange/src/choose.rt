@@ -1,7 +1,7 @@
 // Choosing in place: the number that belongs at a place of a run, with no greater one before it and no smaller one after it.
 // A part of the run that holds it is narrowed by passes; what the pivots are decides only how soon it is small. A pivot comes from a
-// sample, and after a pass that hardly narrowed the part, or after 31 of them, it is counted out exactly, which takes 32 passes at most and
-// leaves the number in its place with one more. So no input takes more than 64 passes.
+// sample. After a pass that hardly narrowed the part, or after 30 of them, it is counted out exactly, which takes 32 passes at most; one
+// more cuts the part at its place, and one brings it there. So no input takes more than 64 passes.
 ghost use Prim.Native.Nat.{_+_, _*_, _<_, _≤_};
 ghost use lib.ListN.{length};
 ghost use Rattle.arrange.specs.Parted.{Parted};
@@ -170,7 +170,7 @@ pub fn choose(run: &mut [u32], m: usize)
     let mut top: u32 = 0xffff_ffff;
     let mut pass: u32 = 0;
     let mut stuck = false;
-    while 8 < e - a && a < m && lo < top && pass < 32 {
+    while 8 < e - a && a < m && lo < top && pass < 31 {
         let size = e - a;
         let pivot = next_pivot(&run[a..e], m - a, lo, top, stuck);
         let r = partition(run, a, e, pivot);
@@ -182,7 +182,7 @@ pub fn choose(run: &mut [u32], m: usize)
             lo = pivot;
         }
         pass += 1;
-        stuck = (pass == 31) | (size - size / 8 < e - a);
+        stuck = (pass == 30) | (size - size / 8 < e - a);
     }
     finish(run, a, e, m);
 }
