@@ -44,8 +44,18 @@ pub struct Contender<'a> {
 
 impl<'a> Contender<'a> {
     /// A contender whose call gives something back only after its time is taken.
-    pub fn new<T>(name: &'static str, mut work: impl FnMut() -> T + 'a) -> Contender<'a> {
+    pub fn new<T>(name: &'static str, work: impl FnMut() -> T + 'a) -> Contender<'a> {
+        Contender::after(name, || (), work)
+    }
+
+    /// The same, where something else is done before each call and its time does not count: it leaves the caches as the work will find them.
+    pub fn after<S, T>(
+        name: &'static str,
+        mut before: impl FnMut() -> S + 'a,
+        mut work: impl FnMut() -> T + 'a,
+    ) -> Contender<'a> {
         let call = move || {
+            std::hint::black_box(before());
             let (time, made) = timed(&mut work);
             drop(made);
             time

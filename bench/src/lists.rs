@@ -56,16 +56,18 @@ fn sorted(numbers: &[u32]) -> Vec<u32> {
     numbers
 }
 
-/// Measures every way to list one region of one shelf, and the check call, which is a part of the list call.
+/// Measures every way to list one region of one shelf, and the check call, which is a part of the list call. The walk by hand follows a check,
+/// as the walk does within the list call.
 pub fn measure(shelf: &Shelf, region: &Region, rounds: usize) -> Measured {
     let listing = agreed_listing(shelf, region);
     let (stock, order, tree) = (shelf.stock, shelf.order, &shelf.tree);
     let mut lists: [Vec<u32>; 6] = std::array::from_fn(|_| vec![0; stock.n]);
     let [a, b, c, d, e, f] = &mut lists;
+    let check = || library::check(stock, order);
     let contenders = vec![
         Contender::new("list", || library::list(stock, order, region, a)),
-        Contender::new("check", || library::check(stock, order)),
-        Contender::new("walk by hand", || walk(stock, order, region, b)),
+        Contender::new("check", check),
+        Contender::after("walk by hand", check, || walk(stock, order, region, b)),
         Contender::new("scan in Rust", || scan(stock, order, region, c)),
         Contender::new("scan in C++", || cpp::scan(stock, order, region, d)),
         Contender::new("scan by number in C++", || {

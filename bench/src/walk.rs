@@ -5,7 +5,7 @@ use crate::region::Region;
 use crate::stock::Stock;
 
 /// How many coordinates the root box takes at a time.
-const LANES: usize = 24;
+const WIDTH: usize = 24;
 
 /// A box by its two corner rows.
 #[derive(Clone, Copy)]
@@ -14,18 +14,11 @@ struct Rows {
     high: [i32; 4],
 }
 
-/// The faces that the present box is not known to be wholly above, in rising order.
-#[derive(Clone, Copy)]
-struct Live {
-    face: [u8; 32],
-    count: usize,
-}
-
-/// What a box is found to be.
+/// What a box is found to be. Open, it leaves this many faces.
 enum Judgement {
     Below,
     Above,
-    Open(Live),
+    Open(usize),
 }
 
 /// What a walk reads, and how far it has come.
@@ -41,12 +34,9 @@ struct Walk<'a> {
 
 /// Lists the numbers of the order inside and outside the region, without any test of what is lent.
 pub fn walk(stock: &Stock, order: &[u32], region: &Region, list: &mut [u32]) -> Listing {
-    let mut live = Live {
-        face: [0; 32],
-        count: region.h,
-    };
-    for face in 0..region.h {
-        live.face[face] = face as u8;
+    let mut live = [0; 32];
+    for (face, place) in live.iter_mut().enumerate() {
+        *place = face as u8;
     }
     let mut walk = Walk {
         stock,
@@ -57,7 +47,7 @@ pub fn walk(stock: &Stock, order: &[u32], region: &Region, list: &mut [u32]) -> 
         list,
         visits: 0,
     };
-    walk.branch(0, stock.n, 0, root_rows(stock), &live);
+    walk.branch(0, stock.n, 0, root_rows(stock), &live[..region.h]);
     Listing {
         code: 0,
         inside: walk.front as u32,
@@ -66,42 +56,53 @@ pub fn walk(stock: &Stock, order: &[u32], region: &Region, list: &mut [u32]) -> 
     }
 }
 
-/// The least and the greatest coordinate over all points, in each dimension. Twenty-four coordinates are taken at a time, as the
-/// library takes them: for every k a place among them is always of the same dimension.
-fn root_rows(stock: &Stock) -> Rows {
-    let mut low = [i32::MAX; LANES];
-    let mut high = [i32::MIN; LANES];
-    let (blocks, rest) = stock.points.as_chunks::<LANES>();
-    for block in blocks {
-        for (lane, &x) in block.iter().enumerate() {
-            low[lane] = low[lane].min(x);
-            high[lane] = high[lane].max(x);
+/// The least and the greatest coordinate of each lane, the coordinates being dealt to the lanes in turn.
+struct Lanes {
+    least: [i32; WIDTH],
+    greatest: [i32; WIDTH],
+}
+
+impl Lanes {
+    /// Deals a round, or what is left of one.
+    fn deal(&mut self, round: &[i32]) {
+        for (lane, &x) in round.iter().enumerate() {
+            self.least[lane] = self.least[lane].min(x);
+            self.greatest[lane] = self.greatest[lane].max(x);
         }
     }
-    for (lane, &x) in rest.iter().enumerate() {
-        low[lane] = low[lane].min(x);
-        high[lane] = high[lane].max(x);
-    }
+}
+
+/// The least and the greatest coordinate over all points, in each dimension, in one pass as the library makes it: for every k a lane has
+/// coordinates of one dimension.
+fn root_rows(stock: &Stock) -> Rows {
+    let mut lanes = Lanes {
+        least: [i32::MAX; WIDTH],
+        greatest: [i32::MIN; WIDTH],
+    };
+    let (rounds, rest) = stock.points.as_chunks::<WIDTH>();
+    rounds.iter().for_each(|round| lanes.deal(round));
+    lanes.deal(rest);
     let mut rows = Rows {
         low: [0; 4],
         high: [0; 4],
     };
     for d in 0..stock.k {
-        let lanes = || (d..LANES).step_by(stock.k);
-        rows.low[d] = lanes().map(|lane| low[lane]).min().unwrap();
-        rows.high[d] = lanes().map(|lane| high[lane]).max().unwrap();
+        let of_d = || (d..WIDTH).step_by(stock.k);
+        rows.low[d] = of_d().map(|lane| lanes.least[lane]).min().unwrap();
+        rows.high[d] = of_d().map(|lane| lanes.greatest[lane]).max().unwrap();
     }
     rows
 }
 
 impl Walk<'_> {
     /// Hands a settled branch to a list as one run, and an open one to its node.
-    fn branch(&mut self, start: usize, length: usize, s: usize, rows: Rows, live: &Live) {
+    fn branch(&mut self, start: usize, length: usize, s: usize, rows: Rows, live: &[u8]) {
         if length == 0 {
             return;
         }
         let run = &self.order[start..start + length];
-        match self.judge(&rows, live) {
+        let mut next = [0; 32];
+        match self.judge(&rows, live, &mut next) {
             Judgement::Below => {
                 self.back -= length;
                 let places = &mut self.list[self.back..self.back + length];
@@ -113,12 +114,12 @@ impl Walk<'_> {
                 self.list[self.front..self.front + length].copy_from_slice(run);
                 self.front += length;
             }
-            Judgement::Open(live) => self.node(start, length, s, rows, &live),
+            Judgement::Open(left) => self.node(start, length, s, rows, &next[..left]),
         }
     }
 
     /// Counts the visit, walks the left branch, lists the node by its own test, and walks the right branch.
-    fn node(&mut self, start: usize, length: usize, s: usize, rows: Rows, live: &Live) {
+    fn node(&mut self, start: usize, length: usize, s: usize, rows: Rows, live: &[u8]) {
         self.visits += 1;
         let half = length / 2;
         let number = self.order[start + half];
@@ -133,8 +134,8 @@ impl Walk<'_> {
     }
 
     /// Lists one number by its point.
-    fn place(&mut self, number: u32, point: [i32; 4], live: &Live) {
-        let mut faces = live.face[..live.count].iter();
+    fn place(&mut self, number: u32, point: [i32; 4], live: &[u8]) {
+        let mut faces = live.iter();
         if faces.all(|&face| self.is_above(usize::from(face), &point)) {
             self.list[self.front] = number;
             self.front += 1;
@@ -144,23 +145,20 @@ impl Walk<'_> {
         }
     }
 
-    /// Judges a box against the live faces, up to the first that it is wholly below.
-    fn judge(&self, rows: &Rows, live: &Live) -> Judgement {
-        let mut left = Live {
-            face: [0; 32],
-            count: 0,
-        };
-        for &face in &live.face[..live.count] {
+    /// Judges a box against the live faces, up to the first that it is wholly below, and writes those that are left to `next`.
+    fn judge(&self, rows: &Rows, live: &[u8], next: &mut [u8; 32]) -> Judgement {
+        let mut left = 0;
+        for &face in live {
             let f = usize::from(face);
             if !self.is_above(f, &self.corner(f, &rows.low, &rows.high)) {
                 if !self.is_above(f, &self.corner(f, &rows.high, &rows.low)) {
                     return Judgement::Below;
                 }
-                left.face[left.count] = face;
-                left.count += 1;
+                next[left] = face;
+                left += 1;
             }
         }
-        match left.count {
+        match left {
             0 => Judgement::Above,
             _ => Judgement::Open(left),
         }

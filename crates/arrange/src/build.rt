@@ -8,11 +8,11 @@ ghost use Rattle.terms.specs.Tree.{members, isTree};
 ghost use Rattle.theory.specs.Tested.{TestedPoints};
 ghost use Rattle.arrange.specs.Placed.{Placed};
 ghost use Rattle.arrange.specs.Arranged.{Arrangeable, Arranged};
-use crate::axis::next_axis;
 use crate::belongs::belongs;
 use crate::choose::choose;
 use crate::key::write_keys;
 use crate::key::write_numbers;
+use terms::axis::next_axis;
 
 // Puts the number that belongs at the place m of the run there, by the keys on dimension s.
 fn place_node(points: &[i32], k: usize, s: usize, run: &mut [u32], m: usize)

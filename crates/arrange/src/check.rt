@@ -1,9 +1,9 @@
 // The checker: whether an order is the tree of its points, by one descent and no memory besides the stack.
-// It carries by value, for each dimension, the least key allowed and the first not allowed. A run of three slots at most is decided at once;
-// most slots of a shelf stand in such runs.
-use crate::axis::next_axis;
+// It carries by value, for each dimension, the least key allowed and the first not allowed. Below the root a run of three slots at most is decided at
+// once; most slots of a shelf stand in such runs.
 use crate::belongs::belongs;
 use crate::key::key;
+use terms::axis::next_axis;
 ghost use mathlib.Core.Path.{_≡_};
 ghost use Prim.Native.Nat.{_<_};
 ghost use lib.ListN.{length};
@@ -57,7 +57,7 @@ fn allowed(k: usize, m: usize, points: &[i32], least: [u32; 4], end: [u32; 4], p
 }
 
 // Whether the run, of two slots at most, is a branch whose node splits on dimension s, with every number allowed.
-fn few(
+fn few_slots(
     k: usize,
     m: usize,
     points: &[i32],
@@ -86,7 +86,7 @@ fn few(
 }
 
 // The same of a run of three slots: its node and the two slots that are its branches.
-fn three(
+fn three_slots(
     k: usize,
     m: usize,
     points: &[i32],
@@ -124,10 +124,10 @@ fn branch(
 {
     let c = order.len();
     if c == 3 {
-        return three(k, m, points, order, s, least, end);
+        return three_slots(k, m, points, order, s, least, end);
     }
     if c < 3 {
-        return few(k, m, points, order, s, least, end);
+        return few_slots(k, m, points, order, s, least, end);
     }
     node(k, m, points, order, s, least, end)
 }

@@ -1,7 +1,7 @@
 // Choosing in place: the number that belongs at a place of a run, with no greater one before it and no smaller one after it.
 // A part of the run that holds it is narrowed by passes; what the pivots are decides only how soon it is small. A pivot comes from a
-// sample. After a pass that hardly narrowed the part, or after 30 of them, it is counted out exactly, which takes 32 passes at most; one
-// more cuts the part at its place, and one brings it there. So no input takes more than 64 passes.
+// sample. After a pass that hardly narrowed the part, and after 30 passes, it is counted out exactly, which takes 32 passes at most; one more
+// cuts the part at its place, and one brings it there. So no run whose numbers all differ, as keys do, takes more than 64 passes.
 ghost use Prim.Native.Nat.{_+_, _*_, _<_, _≤_};
 ghost use lib.ListN.{length};
 ghost use Rattle.arrange.specs.Parted.{Parted};
@@ -123,14 +123,14 @@ fn counted_pivot(part: &[u32], rank: usize, lo: u32, top: u32) -> u32
     l
 }
 
-// A pivot above lo and at most top: from a sample, or where the last one hardly narrowed the part, by counting.
-fn next_pivot(part: &[u32], rank: usize, lo: u32, top: u32, stuck: bool) -> u32
+// A pivot above lo and at most top: from a sample, or by counting.
+fn next_pivot(part: &[u32], rank: usize, lo: u32, top: u32, counting: bool) -> u32
     requires { ⌜ 8 < length (now part) ⌝ }
     requires { ⌜ length (now part) ≤ 65535 ⌝ }
     requires { ⌜ lo < top ⌝ }
     ensures { λ r. ⌜ (lo < r) × (r ≤ top) ⌝ }
 {
-    let pivot = if stuck {
+    let pivot = if counting {
         counted_pivot(part, rank, lo, top)
     } else {
         sampled_pivot(part, rank)
@@ -169,10 +169,10 @@ pub fn choose(run: &mut [u32], m: usize)
     let mut lo: u32 = 0;
     let mut top: u32 = 0xffff_ffff;
     let mut pass: u32 = 0;
-    let mut stuck = false;
+    let mut counting = false;
     while 8 < e - a && a < m && lo < top && pass < 31 {
         let size = e - a;
-        let pivot = next_pivot(&run[a..e], m - a, lo, top, stuck);
+        let pivot = next_pivot(&run[a..e], m - a, lo, top, counting);
         let r = partition(run, a, e, pivot);
         if m < r {
             e = r;
@@ -182,7 +182,7 @@ pub fn choose(run: &mut [u32], m: usize)
             lo = pivot;
         }
         pass += 1;
-        stuck = (pass == 30) | (size - size / 8 < e - a);
+        counting = (pass == 30) | (size - size / 8 < e - a);
     }
     finish(run, a, e, m);
 }

@@ -1,5 +1,4 @@
 // The shelf's order: keys, the builder that arranges the lent order in place, and the checker of an order.
-pub mod axis;
 pub mod belongs;
 pub mod build;
 pub mod check;

@@ -4,6 +4,7 @@ use crate::faces::sum;
 use terms::CornerRows;
 ghost use mathlib.Core.Path.{_≡_};
 ghost use Prim.Native.Nat.{_<_};
+ghost use lib.ListN.{set};
 ghost use Rattle.whole.specs.IndexedSum.{sumTo};
 ghost use Rattle.terms.specs.Points.{lone};
 ghost use Rattle.terms.specs.Box.{boxOf, leftBox, rightBox};
@@ -78,14 +79,32 @@ pub fn wholly_below(
     !above(corner_sum(normals, i * k, k, high, low), offsets[i])
 }
 
+// The row with its entry of dimension s replaced by x. Every entry is asked whether it is the one, so that no row has to be stored and read back.
+fn replaced(row: [i32; 4], s: usize, x: i32) -> [i32; 4]
+    requires { ⌜ s < 4 ⌝ }
+    ensures { λ r. ⌜ r ≡ set row s x ⌝ }
+{
+    let mut next = row;
+    for d in 0..4 {
+        if d == s {
+            next[d] = x;
+        }
+    }
+    next
+}
+
 // The box of a left branch: the greatest coordinate on s replaced by the node's.
 pub fn left_box(rows: CornerRows, s: usize, x: i32) -> CornerRows
     requires { ⌜ s < 4 ⌝ }
     ensures { λ r. ⌜ boxOf r ≡ leftBox (boxOf rows) s x ⌝ }
 {
-    let mut child = rows;
-    child.high[s] = x;
-    child
+    let low = rows.low;
+    let high = rows.high;
+    let next = replaced(high, s, x);
+    CornerRows {
+        low: low,
+        high: next,
+    }
 }
 
 // The box of a right branch: the least coordinate on s replaced by the node's.
@@ -93,7 +112,11 @@ pub fn right_box(rows: CornerRows, s: usize, x: i32) -> CornerRows
     requires { ⌜ s < 4 ⌝ }
     ensures { λ r. ⌜ boxOf r ≡ rightBox (boxOf rows) s x ⌝ }
 {
-    let mut child = rows;
-    child.low[s] = x;
-    child
+    let low = rows.low;
+    let high = rows.high;
+    let next = replaced(low, s, x);
+    CornerRows {
+        low: next,
+        high: high,
+    }
 }

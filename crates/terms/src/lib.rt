@@ -1,6 +1,7 @@
 // The values that the calls share: the box as one value, and the answers.
+pub mod axis;
 
-// A box: its least and its greatest coordinate in each dimension. Places from k on are 0.
+// A box: its least and its greatest coordinate in each dimension. Places from k on mean nothing.
 pub struct CornerRows {
     pub low: [i32; 4],
     pub high: [i32; 4],

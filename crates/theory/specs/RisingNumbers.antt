@@ -14,7 +14,7 @@ use Rattle.terms.specs.Points.{below}
 use Rattle.terms.specs.Tree.{members}
 use Rattle.theory.specs.Flags.{true-and, and-no}
 use Rattle.theory.specs.Counting.{count-keep, count-same, count-no}
-use Rattle.theory.specs.Keeping.{keep-append, keep-every, every-keep, every-kept, length-keep}
+use Rattle.theory.specs.Keeping.{keep-append, keep-every, every-keep, every-kept}
 
 pub length-rising : (a c : ℕ) → length (rising a c) ≡ c
 unfolding rising
@@ -102,10 +102,6 @@ count-members belongs m v =
     go : (t : Bool) → count (λ p. t && eqb v p) (rising 0 m) ≡ bit (t && ltb v m)
     go true = count-below v m
     go false = count-no (rising 0 m)
-
--- How many they are.
-pub length-members : (belongs : ℕ → Bool) (m : ℕ) → length (members belongs m) ≡ totalTo m (λ p. bit (belongs p))
-length-members belongs m = length-keep belongs (rising 0 m) ∙ count-to belongs m
 
 -- Of the numbers below n all belong to a shelf of n.
 pub members-shelf : (n : ℕ) → members (below n) n ≡ rising 0 n

@@ -1,15 +1,15 @@
 -- What the node part and the branch part ask of the lent numbers, and that it goes on to both branches of an open branch.
-use mathlib.Core.Path.{_≡_}
+use mathlib.Core.Path.{_≡_, sym, ap, _∙_}
 use mathlib.Core.List.{List}
 use Prim.Native.Nat.{ℕ, _+_, _-_, _/_, _%_, _<_}
-use native.Mathlib.Nat.{mod-lt}
+use native.Mathlib.Nat.{mod-lt, suc-mod}
+use native.Mathlib.Numerals.{add-one}
 use native.Mathlib.Omega.{arith}
 use lib.ListN.{length}
 use lib.IntN.{ℤ, pos, negsuc}
 use Rattle.terms.specs.Points.{coord}
 use Rattle.terms.specs.Run.{axis}
 use Rattle.terms.specs.Box.{Box, boxOf}
-use Rattle.terms.specs.declared.CornerRows.{CornerRows}
 use Rattle.terms.specs.Region.{Region, region, inside}
 use Rattle.theory.specs.Tested.{Between}
 use Rattle.region.specs.Ranges.{BoxRanges, Faces, left-ranges, right-ranges}
@@ -34,11 +34,14 @@ pub record Walkable (k : ℕ) (points : List ℤ) (order : List ℕ) (normals of
   pub faces : Faces k (length offsets) normals offsets
   pub ranges : BoxRanges k b
 
--- A branch one deeper, from slot a on, with c slots.
-pub record Child (a c j : ℕ) (start size depth : ℕ) : Type 0 where
+-- A branch one deeper, from slot a on, with c slots, whose node splits on dimension s, with f live faces and box b.
+pub record Child (a c j s f : ℕ) (b : Box) (start size depth split count : ℕ) (box : Box) : Type 0 where
   pub starts : start ≡ a
   pub slots : size ≡ c
   pub deeper : depth ≡ j + 1
+  pub splits : split ≡ s
+  pub faces : count ≡ f
+  pub in-box : box ≡ b
 
 module _ {k : ℕ} {points : List ℤ} {order : List ℕ} {normals offsets : List ℤ} {a c j : ℕ} {b : Box} {list : List ℕ} {i o u : ℕ}
     (w : Walkable k points order normals offsets a c j b list i o u) (some : 0 < c) where
@@ -80,26 +83,30 @@ module _ {k : ℕ} {points : List ℤ} {order : List ℕ} {normals offsets : Lis
     ranges = right-ranges (w .ranges) (axis k j) own-ranges;
   }
 
--- What a branch's own numbers ask and tell, said of the values that it is handed on as.
-module _ {a c j start size depth : ℕ} {b box : Box} (child : Child a c j start size depth) (in-box : box ≡ b) where
+-- What a branch's own numbers ask and tell, said of the value that it is handed on as.
+module _ {a c j s f : ℕ} {b : Box} {start size depth split count : ℕ} {box : Box} (child : Child a c j s f b start size depth split count box) where
   pub child-walkable : {k : ℕ} {points : List ℤ} {order : List ℕ} {normals offsets : List ℤ} {list : List ℕ} {i o u : ℕ}
       → Walkable k points order normals offsets a c (j + 1) b list i o u → Walkable k points order normals offsets start size depth box list i o u
-  child-walkable w = rw (child .starts, child .slots, child .deeper, in-box) w
+  child-walkable w = rw (child .starts, child .slots, child .deeper, child .in-box) w
 
-  pub child-lives : {g : Region} {face : List ℕ} {count : ℕ} → Lives g b face count → Lives g box face count
-  child-lives v = rw in-box v
+  pub child-lives : {g : Region} {face : List ℕ} → Lives g b face f → Lives g box face count
+  child-lives v = rw (child .in-box, child .faces) v
+
+  pub child-splits : (k : ℕ) → s ≡ axis k (axis k j + 1) → split ≡ axis k depth
+  child-splits k e = child .splits ∙ e ∙ ap (axis k) (add-one (axis k j)) ∙ sym (suc-mod j k) ∙ ap (axis k) (sym (add-one j) ∙ sym (child .deeper))
 
   pub child-walked : (order : List ℕ) {g : Region} {at : ℕ → ℕ → ℤ} {n : ℕ} {list after : List ℕ} {i o u i' o' u' : ℕ}
       → Walked g at depth (runOf order start size) box n list after i o u i' o' u' → Walked g at (j + 1) (runOf order a c) b n list after i o u i' o' u'
-  child-walked order w = rw (child .starts, child .slots, child .deeper, in-box) at w
+  child-walked order w = rw (child .starts, child .slots, child .deeper, child .in-box) at w
 
 -- What both parts ask of the branch and what they do, read off the values that they take and give.
-abbrev pub BranchAsks : ℕ → List ℤ → List ℕ → List ℤ → List ℤ → Run → CornerRows → List ℕ → ℕ → List ℕ → Tally → Type 0
-BranchAsks k points order normals offsets run rows live count list tally =
-    Walkable k points order normals offsets (run .start) (run .length) (run .depth) (boxOf rows) list (tally .inside) (tally .outside) (tally .visits)
-    × Lives (regionOf k normals offsets) (boxOf rows) live count
+abbrev pub BranchAsks : ℕ → List ℤ → List ℕ → List ℤ → List ℤ → Run → List ℕ → List ℕ → Tally → Type 0
+BranchAsks k points order normals offsets run live list tally =
+    Walkable k points order normals offsets (run .start) (run .length) (run .depth) (boxOf (run .rows)) list (tally .inside) (tally .outside) (tally .visits)
+    × Lives (regionOf k normals offsets) (boxOf (run .rows)) live (run .count)
+    × (run .axis ≡ axis k (run .depth))
 
-abbrev pub BranchDoes : ℕ → List ℤ → List ℕ → List ℤ → List ℤ → Run → CornerRows → List ℕ → List ℕ → Tally → Tally → Type 0
-BranchDoes k points order normals offsets run rows list after tally next =
-    Walked (regionOf k normals offsets) (coord k points) (run .depth) (runOf order (run .start) (run .length)) (boxOf rows) (length order)
+abbrev pub BranchDoes : ℕ → List ℤ → List ℕ → List ℤ → List ℤ → Run → List ℕ → List ℕ → Tally → Tally → Type 0
+BranchDoes k points order normals offsets run list after tally next =
+    Walked (regionOf k normals offsets) (coord k points) (run .depth) (runOf order (run .start) (run .length)) (boxOf (run .rows)) (length order)
     list after (tally .inside) (tally .outside) (tally .visits) (next .inside) (next .outside) (next .visits)

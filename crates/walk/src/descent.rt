@@ -8,51 +8,70 @@ use region::boxes::right_box;
 use region::judge::judge;
 use region::live::inside_live;
 use terms::CornerRows;
+use terms::axis::next_axis;
 ghost use mathlib.Core.Path.{_≡_};
 ghost use mathlib.Core.Bool.{true};
 ghost use Prim.Native.Nat.{_+_, _-_, _/_, _^_, _<_};
 ghost use lib.ListN.{length};
-ghost use Rattle.terms.specs.Box.{boxOf};
+ghost use Rattle.terms.specs.Box.{boxOf, leftBox, rightBox};
 ghost use Rattle.terms.specs.Region.{isOpen};
 ghost use Rattle.walk.specs.Fill.{Placed};
 ghost use Rattle.walk.specs.Descent.{BranchAsks, BranchDoes, Child, regionOf};
 
-// A branch's slots: where its run starts and how long it is, and its depth.
+// A branch: where its run of slots starts and how long it is, its depth and the dimension on which its node splits, how many faces are live
+// for it, and its box.
 pub struct Run {
     pub start: usize,
     pub length: usize,
     pub depth: usize,
+    pub axis: usize,
+    pub count: usize,
+    pub rows: CornerRows,
 }
 
-// The left branch of a branch.
-fn left_run(run: Run) -> Run
+// The left branch of a branch whose node has the coordinate x on the dimension on which it splits; the branch's own node splits on the next.
+fn left_run(run: Run, x: i32, next: usize) -> Run
+    requires { ⌜ run .axis < 4 ⌝ }
     requires { ⌜ run .depth + 1 < 2 ^ 64 ⌝ }
-    ensures { λ r. ⌜ Child (run .start) (run .length / 2) (run .depth) (r .start) (r .length) (r .depth) ⌝ }
+    ensures { λ r. ⌜ Child (run .start) (run .length / 2) (run .depth) next (run .count) (leftBox (boxOf (run .rows)) (run .axis) x)
+        (r .start) (r .length) (r .depth) (r .axis) (r .count) (boxOf (r .rows)) ⌝ }
 {
+    let rows = run.rows;
+    let left = left_box(rows, run.axis, x);
     Run {
         start: run.start,
         length: run.length / 2,
         depth: run.depth + 1,
+        axis: next,
+        count: run.count,
+        rows: left,
     }
 }
 
 // The right branch.
-fn right_run(run: Run) -> Run
+fn right_run(run: Run, x: i32, next: usize) -> Run
+    requires { ⌜ run .axis < 4 ⌝ }
     requires { ⌜ run .depth + 1 < 2 ^ 64 ⌝ }
     requires { ⌜ 0 < run .length ⌝ }
     requires { ⌜ run .start + run .length < 2 ^ 64 ⌝ }
-    ensures { λ r. ⌜ Child (run .start + run .length / 2 + 1) (run .length - run .length / 2 - 1) (run .depth) (r .start) (r .length) (r .depth) ⌝ }
+    ensures { λ r. ⌜ Child (run .start + run .length / 2 + 1) (run .length - run .length / 2 - 1) (run .depth) next (run .count) (rightBox (boxOf (run .rows)) (run .axis) x)
+        (r .start) (r .length) (r .depth) (r .axis) (r .count) (boxOf (r .rows)) ⌝ }
 {
+    let rows = run.rows;
+    let right = right_box(rows, run.axis, x);
     let half = run.length / 2;
     Run {
         start: run.start + half + 1,
         length: run.length - half - 1,
         depth: run.depth + 1,
+        axis: next,
+        count: run.count,
+        rows: right,
     }
 }
 
-// The part for a branch: its box is judged against the `count` faces that are live for it. A settled run goes to a list as one part of the order,
-// an open one to the part for its node, with the faces that are left.
+// The part for a branch: its box is judged against the faces that are live for it. A settled run goes to a list as one part of the order, an
+// open one to the part for its node, with the faces that are left.
 pub fn branch(
     k: usize,
     points: &[i32],
@@ -60,15 +79,12 @@ pub fn branch(
     normals: &[i32],
     offsets: &[i64],
     run: Run,
-    rows: CornerRows,
     live: &[u8; 32],
-    count: usize,
     list: &mut [u32],
     tally: Tally,
 ) -> Tally
-    requires { ⌜ BranchAsks k (now points) (now order) (now normals) (now offsets) run rows (now live) count (now list) tally ⌝ }
-    ensures { λ r. ⌜ BranchDoes k (now (points .entry)) (now (order .entry)) (now (normals .entry)) (now (offsets .entry))
-        run rows (now (list .entry)) (now (list .exit)) tally r ⌝ }
+    requires { ⌜ BranchAsks k (now points) (now order) (now normals) (now offsets) run (now live) (now list) tally ⌝ }
+    ensures { λ r. ⌜ BranchDoes k (now (points .entry)) (now (order .entry)) (now (normals .entry)) (now (offsets .entry)) run (now (list .entry)) (now (list .exit)) tally r ⌝ }
 {
     let a = run.start;
     let c = run.length;
@@ -77,7 +93,7 @@ pub fn branch(
     }
     let h = offsets.len();
     let mut next = [0u8; 32];
-    let judged = judge(k, h, normals, offsets, rows, live, count, &mut next);
+    let judged = judge(k, h, normals, offsets, run.rows, live, run.count, &mut next);
     let e = a + c;
     let mut settled = tally;
     if judged.below {
@@ -91,19 +107,9 @@ pub fn branch(
         settled.inside += c;
         return settled;
     }
-    node(
-        k,
-        points,
-        order,
-        normals,
-        offsets,
-        run,
-        rows,
-        &next,
-        judged.left,
-        list,
-        tally,
-    )
+    let mut open = run;
+    open.count = judged.left;
+    node(k, points, order, normals, offsets, open, &next, list, tally)
 }
 
 // The part for the node of an open branch: one visit, the left branch, its own number by its own test, the right branch.
@@ -114,57 +120,28 @@ fn node(
     normals: &[i32],
     offsets: &[i64],
     run: Run,
-    rows: CornerRows,
     live: &[u8; 32],
-    count: usize,
     list: &mut [u32],
     tally: Tally,
 ) -> Tally
-    requires { ⌜ BranchAsks k (now points) (now order) (now normals) (now offsets) run rows (now live) count (now list) tally ⌝ }
+    requires { ⌜ BranchAsks k (now points) (now order) (now normals) (now offsets) run (now live) (now list) tally ⌝ }
     requires { ⌜ 0 < run .length ⌝ }
-    requires { ⌜ isOpen (regionOf k (now normals) (now offsets)) (boxOf rows) ≡ true ⌝ }
-    ensures { λ r. ⌜ BranchDoes k (now (points .entry)) (now (order .entry)) (now (normals .entry)) (now (offsets .entry))
-        run rows (now (list .entry)) (now (list .exit)) tally r ⌝ }
+    requires { ⌜ isOpen (regionOf k (now normals) (now offsets)) (boxOf (run .rows)) ≡ true ⌝ }
+    ensures { λ r. ⌜ BranchDoes k (now (points .entry)) (now (order .entry)) (now (normals .entry)) (now (offsets .entry)) run (now (list .entry)) (now (list .exit)) tally r ⌝ }
 {
-    let s = run.depth % k;
     let middle = run.start + run.length / 2;
     let p = order[middle];
-    let x = coordinate(k, points, p, s);
-    let left = left_run(run);
-    let right = right_run(run);
-    let left_rows = left_box(rows, s, x);
-    let right_rows = right_box(rows, s, x);
+    let x = coordinate(k, points, p, run.axis);
+    let next = next_axis(k, run.axis);
+    let left = left_run(run, x, next);
+    let right = right_run(run, x, next);
     let mut start = tally;
     start.visits += 1;
-    let first = branch(
-        k,
-        points,
-        order,
-        normals,
-        offsets,
-        left,
-        left_rows,
-        live,
-        count,
-        list,
-        start,
-    );
+    let first = branch(k, points, order, normals, offsets, left, live, list, start);
     let h = offsets.len();
-    let inside = inside_live(k, h, points, normals, offsets, p as usize, live, count);
+    let inside = inside_live(k, h, points, normals, offsets, p as usize, live, run.count);
     let own = place(inside, p, list, first);
-    branch(
-        k,
-        points,
-        order,
-        normals,
-        offsets,
-        right,
-        right_rows,
-        live,
-        count,
-        list,
-        own,
-    )
+    branch(k, points, order, normals, offsets, right, live, list, own)
 }
 
 // Writes one number to the list that its test says.

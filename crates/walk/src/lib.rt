@@ -38,12 +38,8 @@ pub fn walk(
     requires { ⌜ TestedFaces k (length (now offsets)) (now normals) (now offsets) ⌝ }
     requires { ⌜ length (now list) ≡ length (now order) ⌝ }
     requires { ⌜ isTree k (coord k (now points)) (below m) m (now order) ≡ true ⌝ }
-    ensures { λ r. ⌜ Listed
-        (region k (length (now (offsets .entry))) (now (normals .entry)) (now (offsets .entry)))
-        (coord k (now (points .entry)))
-        (now (order .entry))
-        (now (list .exit))
-        (r .inside) (r .outside) (r .visits) ⌝ }
+    ensures { λ r. ⌜ Listed (region k (length (now (offsets .entry))) (now (normals .entry)) (now (offsets .entry))) (coord k (now (points .entry)))
+        (now (order .entry)) (now (list .exit)) (r .inside) (r .outside) (r .visits) ⌝ }
 {
     let none = Tally {
         inside: 0,
@@ -55,24 +51,15 @@ pub fn walk(
         return none;
     }
     let rows = root_box(k, m, points);
+    let h = offsets.len();
     let root = Run {
         start: 0,
         length: slots,
         depth: 0,
+        axis: 0,
+        count: h,
+        rows: rows,
     };
-    let h = offsets.len();
     let live = all_faces(h);
-    branch(
-        k,
-        points,
-        order,
-        normals,
-        offsets,
-        root,
-        rows,
-        &live,
-        h,
-        list,
-        none,
-    )
+    branch(k, points, order, normals, offsets, root, &live, list, none)
 }

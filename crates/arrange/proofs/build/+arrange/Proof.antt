@@ -16,7 +16,7 @@ use Rattle.arrange.specs.Arranged.{arranged-short, arranged-small, arran
 use Rattle.arrange.proofs.build.arrange.Reads as arrange
 use Rattle.arrange.proofs.build.arrange.Kinds as arrange-kinds
 use Rattle.arrange.proofs.build.+arrange.Lts-arrange as lts
-use Rattle.arrange.proofs.axis.next_axis.Reads as next-axis-reads
+use Rattle.terms.proofs.axis.next_axis.Reads as next-axis-reads
 use Rattle.arrange.proofs.build.place_node.Reads as place-node-reads
 use Rattle.arrange.proofs.build.+arrange.{statement}
 use Rattle.arrange.proofs.build.+arrange.Tie.{close}

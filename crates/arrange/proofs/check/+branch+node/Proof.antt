@@ -26,10 +26,10 @@ use Rattle.arrange.proofs.check.+branch+node.Lts-branch as branch-lts
 use Rattle.arrange.proofs.check.node.Reads as node-reads
 use Rattle.arrange.proofs.check.node.Kinds as node-kinds
 use Rattle.arrange.proofs.check.+branch+node.Lts-node as node-lts
-use Rattle.arrange.proofs.axis.next_axis.Reads as next-axis-reads
+use Rattle.terms.proofs.axis.next_axis.Reads as next-axis-reads
 use Rattle.arrange.proofs.check.allowed.Reads as allowed-reads
-use Rattle.arrange.proofs.check.few.Reads as few-reads
-use Rattle.arrange.proofs.check.three.Reads as three-reads
+use Rattle.arrange.proofs.check.few_slots.Reads as few-reads
+use Rattle.arrange.proofs.check.three_slots.Reads as three-reads
 use Rattle.arrange.proofs.key.key.Reads as key-reads
 use Rattle.arrange.proofs.check.+branch+node.{statement}
 use Rattle.arrange.proofs.check.+branch+node.Tie.{close}
@@ -59,17 +59,17 @@ module _ (t : ℕ) where
   abbrev branch-calls : branch-lts.Claims
   branch-calls = (three-reads.Asked, three-reads.Learnt, few-reads.Asked, few-reads.Learnt, node-below, node-reads.Post)
 
-  three-requires : branch-lts.Need-three-requires branch-calls branch-at branch-reads.Post
+  three-requires : branch-lts.Need-three-slots-requires branch-calls branch-at branch-reads.Post
   three-requires c κs = (c .before .before .pre .1, c .if1 .taken)
 
   three-answers : branch-lts.Need-returns branch-calls branch-at branch-reads.Post
-  three-answers c = c .three .ensures
+  three-answers c = c .three-slots .ensures
 
-  few-requires : branch-lts.Need-few-requires branch-calls branch-at branch-reads.Post
+  few-requires : branch-lts.Need-few-slots-requires branch-calls branch-at branch-reads.Post
   few-requires c κs = (c .before .before .before .pre .1, c .if2 .taken)
 
   few-answers : branch-lts.Need-returns-2 branch-calls branch-at branch-reads.Post
-  few-answers c = c .few .ensures
+  few-answers c = c .few-slots .ensures
 
   node-requires : branch-lts.Need-node-requires branch-calls branch-at branch-reads.Post
   node-requires c κs =

@@ -10,10 +10,10 @@ use Rattle.arrange.proofs.choose.choose.Statement.{statement}
 use Rattle.arrange.proofs.choose.choose.Tie as tie
 
 abbrev Inv-loop : tie.InvT-loop
-Inv-loop run₀ m a₀ e₀ lo₀ top₀ pass₀ stuck₀ run a e lo top pass stuck = Narrowed run₀ run m a e
+Inv-loop run₀ m a₀ e₀ lo₀ top₀ pass₀ counting₀ run a e lo top pass counting = Narrowed run₀ run m a e
 
 abbrev μ-loop : tie.MeasureT-loop
-μ-loop run₀ m a₀ e₀ lo₀ top₀ pass₀ stuck₀ run a e lo top pass stuck = top - lo
+μ-loop run₀ m a₀ e₀ lo₀ top₀ pass₀ counting₀ run a e lo top pass counting = top - lo
 
 loop-holds : tie.Need-loop-holds Inv-loop μ-loop
 loop-holds c = narrowed-all (c .before .args .run .now) (c .before .args .m) (c .before .pre .0)
@@ -64,11 +64,11 @@ halved c =
 add-pass : tie.Need-add-pass Inv-loop μ-loop
 add-pass c = omega (arith, ltb-true)
 
-sub-stuck : tie.Need-sub-stuck Inv-loop μ-loop
-sub-stuck c = omega arith
+sub-counting : tie.Need-sub-counting Inv-loop μ-loop
+sub-counting c = omega arith
 
-sub-stuck-2 : tie.Need-sub-stuck-2 Inv-loop μ-loop
-sub-stuck-2 c = let n = halved (c .before .before) .0 in omega (arith, n .from, n .to)
+sub-counting-2 : tie.Need-sub-counting-2 Inv-loop μ-loop
+sub-counting-2 c = let n = halved (c .before .before) .0 in omega (arith, n .from, n .to)
 
 loop-less : tie.Need-loop-less Inv-loop μ-loop
 loop-less c = halved (c .before .before) .1
@@ -103,8 +103,8 @@ choose-spec =
     partition-requires
     sub-top
     add-pass
-    sub-stuck
-    sub-stuck-2
+    sub-counting
+    sub-counting-2
     loop-less
     loop-again
     finish-requires

@@ -1,12 +1,13 @@
 -- The node part and the branch part, which call each other: the measure is twice the run's length, and one more for the branch part.
 -- A branch that is judged settled goes to a copier; an open one to its node, whose two branches' boxes and live faces nest in its own.
 use mathlib.Core.Path.{_≡_, refl}
-use Prim.Native.Nat.{ℕ, _<_, _+_, _/_, _%_}
+use Prim.Native.Nat.{ℕ, _<_, _+_, _-_, _/_}
 use native.Mathlib.Omega.{arith}
 use borrow.Author.Needs.{sfits-of}
 use mir.Syntax.{w32}
 use mir.Facts.{toZ-ofZ}
 use Rattle.terms.specs.Points.{coord}
+use Rattle.terms.specs.Run.{axis}
 use Rattle.terms.specs.Box.{boxOf, leftBox, rightBox}
 use Rattle.theory.specs.BoxLaws.{left-nested, right-nested}
 use Rattle.region.specs.Live.{lives-nested}
@@ -14,7 +15,7 @@ use Rattle.region.specs.Judged.{judged-above, judged-open}
 use Rattle.walk.specs.Slots.{lent-length, run-length}
 use Rattle.walk.specs.Walk.{ownOf, ready-own, walked-empty, walked-inside, walked-outside, walked-node, walked-numbers}
 use Rattle.walk.specs.Descent.{own-point, axis-below, axis-small, walkable-left, walkable-right}
-use Rattle.walk.specs.Descent.{child-walkable, child-lives, child-walked}
+use Rattle.walk.specs.Descent.{Child, child-walkable, child-lives, child-splits, child-walked}
 use borrow.Fn.Kinds.{In}
 use borrow.Fn.PlainCycle.{Measures, is, falls, and}
 use Rattle.walk.proofs.descent.branch.Reads as branch
@@ -23,10 +24,9 @@ use Rattle.walk.proofs.descent.+branch+node.Lts-branch as branch-lts
 use Rattle.walk.proofs.descent.node.Reads as node
 use Rattle.walk.proofs.descent.node.Kinds as node-kinds
 use Rattle.walk.proofs.descent.+branch+node.Lts-node as node-lts
+use Rattle.terms.proofs.axis.next_axis.Reads as next-axis
 use Rattle.walk.proofs.descent.left_run.Reads as left-run
 use Rattle.walk.proofs.descent.right_run.Reads as right-run
-use Rattle.region.proofs.boxes.left_box.Reads as left-box
-use Rattle.region.proofs.boxes.right_box.Reads as right-box
 use Rattle.region.proofs.judge.judge.Reads as judge
 use Rattle.region.proofs.live.inside_live.Reads as inside-live
 use Rattle.walk.proofs.copiers.copy_inside.Reads as copy-inside
@@ -73,14 +73,12 @@ module _ (t : ℕ) where
   node-calls = (
     coordinate.Asked,
     coordinate.Learnt,
+    next-axis.Asked,
+    next-axis.Learnt,
     left-run.Asked,
     left-run.Learnt,
     right-run.Asked,
     right-run.Learnt,
-    left-box.Asked,
-    left-box.Learnt,
-    right-box.Asked,
-    right-box.Learnt,
     branch-below,
     branch.Post,
     inside-live.Asked,
@@ -176,7 +174,7 @@ module _ (t : ℕ) where
       let n = c .before .before .if3 .left in
       let some : 0 < s .args .run .length = omega arith in
       let left : 0 < j .result .left = omega arith in
-      (omega (arith, s .pre .0), ((w, j .ensures .lives f), (some, judged-open (j .ensures) f (ready-own (w .ready) some) left)))
+      (omega (arith, s .pre .0), ((w, j .ensures .lives f, s .pre .1 .2), (some, judged-open (j .ensures) f (ready-own (w .ready) some) left)))
 
   branch-same-length-3 : branch-lts.Need-same-length-3 branch-calls branch-at branch.Post
   branch-same-length-3 c = c .before .before .node .ensures .filled .size
@@ -184,23 +182,42 @@ module _ (t : ℕ) where
   branch-returns-4 : branch-lts.Need-returns-4 branch-calls branch-at branch.Post
   branch-returns-4 c = c .before .before .node .ensures
 
-  -- The boxes of the two branches that the node part goes on to.
-  left-in : (c : node-lts.After-left-box node-calls node-at node.Post) →
-      let a = c .before .before .before .before .before .before .before .before .before .before .args in
-      let s = a .run .depth % a .k in
-      let x = coord (a .k) (a .points .now) (ownOf (a .order .now) (a .run .start) (a .run .length)) s in
-      boxOf (c .left-box .result) ≡ leftBox (boxOf (a .rows)) s x
-  left-in c = rw (toZ-ofZ {w = w32} (sfits-of (c .before .before .before .coordinate .ok)), c .before .before .before .coordinate .ensures) at (c .left-box .ensures)
+  -- The dimension on which the node splits is one of the k.
+  splits-below : (c : node-lts.Start node-calls node-at node.Post) → c .args .run .axis < c .args .k
+  splits-below c = rw (c .pre .1 .0 .2) (axis-below (c .pre .1 .0 .0) (c .pre .1 .1 .0))
 
-  right-in : (c : node-lts.After-right-box node-calls node-at node.Post) →
-      let a = c .before .before .before .before .before .before .before .before .before .before .before .args in
-      let s = a .run .depth % a .k in
-      let x = coord (a .k) (a .points .now) (ownOf (a .order .now) (a .run .start) (a .run .length)) s in
-      boxOf (c .right-box .result) ≡ rightBox (boxOf (a .rows)) s x
-  right-in c = rw (toZ-ofZ {w = w32} (sfits-of (c .before .before .before .before .coordinate .ok)), c .before .before .before .before .coordinate .ensures) at (c .right-box .ensures)
+  splits-small : (c : node-lts.Start node-calls node-at node.Post) → c .args .run .axis < 4
+  splits-small c = rw (c .pre .1 .0 .2) (axis-small (c .pre .1 .0 .0) (c .pre .1 .1 .0))
 
-  node-rem-s : node-lts.Need-rem-s node-calls node-at node.Post
-  node-rem-s c = let w = c .before .before .before .pre .1 .0 .0 in omega (arith, w .some)
+  -- The two branches that the node part goes on to.
+  left-is : (c : node-lts.After-left-run node-calls node-at node.Post) →
+      let a = c .before .before .before .before .before .before .before .before .args in
+      let r = a .run in
+      let p = ownOf (a .order .now) (r .start) (r .length) in
+      let child = c .left-run .result in
+      Child (r .start) (r .length / 2) (r .depth) (c .before .next-axis .result) (r .count)
+      (leftBox (boxOf (r .rows)) (axis (a .k) (r .depth)) (coord (a .k) (a .points .now) p (axis (a .k) (r .depth))))
+      (child .start) (child .length) (child .depth) (child .axis) (child .count) (boxOf (child .rows))
+  left-is c =
+      let x = c .before .before .coordinate in
+      rw (toZ-ofZ {w = w32} (sfits-of (x .ok)), x .ensures, c .before .before .before .before .before .before .before .before .pre .1 .0 .2) at (c .left-run .ensures)
+
+  right-is : (c : node-lts.After-right-run node-calls node-at node.Post) →
+      let a = c .before .before .before .before .before .before .before .before .before .args in
+      let r = a .run in
+      let p = ownOf (a .order .now) (r .start) (r .length) in
+      let child = c .right-run .result in
+      Child (r .start + r .length / 2 + 1) (r .length - r .length / 2 - 1) (r .depth) (c .before .before .next-axis .result) (r .count)
+      (rightBox (boxOf (r .rows)) (axis (a .k) (r .depth)) (coord (a .k) (a .points .now) p (axis (a .k) (r .depth))))
+      (child .start) (child .length) (child .depth) (child .axis) (child .count) (boxOf (child .rows))
+  right-is c =
+      let x = c .before .before .before .coordinate in
+      rw (toZ-ofZ {w = w32} (sfits-of (x .ok)), x .ensures, c .before .before .before .before .before .before .before .before .before .pre .1 .0 .2) at (c .right-run .ensures)
+
+  -- The dimension that they split on.
+  next-is : (c : node-lts.After-next-axis node-calls node-at node.Post) → let a = c .before .before .before .before .before .before .before .args in
+      c .next-axis .result ≡ axis (a .k) (axis (a .k) (a .run .depth) + 1)
+  next-is c = rw (c .before .before .before .before .before .before .before .pre .1 .0 .2) at (c .next-axis .ensures)
 
   node-add-middle : node-lts.Need-add-middle node-calls node-at node.Post
   node-add-middle c = omega arith
@@ -213,10 +230,13 @@ module _ (t : ℕ) where
 
   node-coordinate-requires : node-lts.Need-coordinate-requires node-calls node-at node.Post
   node-coordinate-requires c κs =
-      let s = c .before .before .before .before .before .before in
+      let s = c .before .before .before .before .before in
       let w = s .pre .1 .0 .0 in
       let some = s .pre .1 .1 .0 in
-      (own-point w some, axis-below w some)
+      (own-point w some, splits-below s)
+
+  node-next-axis-requires : node-lts.Need-next-axis-requires node-calls node-at node.Post
+  node-next-axis-requires c κs = splits-below (c .before .before .before .before .before .before)
 
   node-left-run-requires : node-lts.Need-left-run-requires node-calls node-at node.Post
   node-left-run-requires c κs =
@@ -224,7 +244,7 @@ module _ (t : ℕ) where
       let w = s .pre .1 .0 .0 in
       let some = s .pre .1 .1 .0 in
       let r = w .ready in
-      omega arith
+      (splits-small s, omega arith)
 
   node-right-run-requires : node-lts.Need-right-run-requires node-calls node-at node.Post
   node-right-run-requires c κs =
@@ -232,25 +252,11 @@ module _ (t : ℕ) where
       let w = s .pre .1 .0 .0 in
       let some = s .pre .1 .1 .0 in
       let r = w .ready in
-      (omega arith, (some, omega arith))
-
-  node-left-box-requires : node-lts.Need-left-box-requires node-calls node-at node.Post
-  node-left-box-requires c κs =
-      let s = c .before .before .before .before .before .before .before .before .before in
-      let w = s .pre .1 .0 .0 in
-      let some = s .pre .1 .1 .0 in
-      axis-small w some
-
-  node-right-box-requires : node-lts.Need-right-box-requires node-calls node-at node.Post
-  node-right-box-requires c κs =
-      let s = c .before .before .before .before .before .before .before .before .before .before in
-      let w = s .pre .1 .0 .0 in
-      let some = s .pre .1 .1 .0 in
-      axis-small w some
+      (splits-small s, (omega arith, (some, omega arith)))
 
   node-add-start : node-lts.Need-add-start node-calls node-at node.Post
   node-add-start c =
-      let s = c .before .before .before .before .before .before .before .before .before .before .before .before in
+      let s = c .before .before .before .before .before .before .before .before .before .before in
       let w = s .pre .1 .0 .0 in
       let some = s .pre .1 .1 .0 in
       let r = w .ready in
@@ -258,25 +264,24 @@ module _ (t : ℕ) where
 
   node-branch-requires : node-lts.Need-branch-requires node-calls node-at node.Post
   node-branch-requires c κs =
-      let s = c .before .before .before .before .before .before .before .before .before .before .before .before .before in
+      let s = c .before .before .before .before .before .before .before .before .before .before .before in
       let w = s .pre .1 .0 .0 in
       let lives = s .pre .1 .0 .1 in
       let some = s .pre .1 .1 .0 in
-      let l = c .before .before .before .before .before .left-run .ensures in
-      let b = left-in (c .before .before .before) in
+      let l = left-is (c .before .before .before) in
       let own = ready-own (w .ready) some in (
         omega (arith, s .pre .0, l .slots),
-        (child-walkable l b (walkable-left w some), child-lives l b (lives-nested (left-nested own _) lives)),
+        (child-walkable l (walkable-left w some), child-lives l (lives-nested (left-nested own _) lives), child-splits l (s .args .k) (next-is (c .before .before .before .before))),
       )
 
   node-cast-inside-live : node-lts.Need-cast-inside-live node-calls node-at node.Post
   node-cast-inside-live c =
-      let r = c .before .before .before .before .before .before .before .before .before .before .before .before .before .before .before .before .args .run in
-      omega (arith, c .before .before .before .before .before .before .before .before .before .before .shared-slice-known2 .given (r .start + r .length / 2))
+      let r = c .before .before .before .before .before .before .before .before .before .before .before .before .before .before .args .run in
+      omega (arith, c .before .before .before .before .before .before .before .before .before .shared-slice-known2 .given (r .start + r .length / 2))
 
   node-inside-live-requires : node-lts.Need-inside-live-requires node-calls node-at node.Post
   node-inside-live-requires c κs =
-      let s = c .before .before .before .before .before .before .before .before .before .before .before .before .before .before .before .before in
+      let s = c .before .before .before .before .before .before .before .before .before .before .before .before .before .before in
       let w = s .pre .1 .0 .0 in
       let lives = s .pre .1 .0 .1 in
       let some = s .pre .1 .1 .0 in
@@ -284,41 +289,43 @@ module _ (t : ℕ) where
 
   node-place-requires : node-lts.Need-place-requires node-calls node-at node.Post
   node-place-requires c κs =
-      let s = c .before .before .before .before .before .before .before .before .before .before .before .before .before .before .before .before .before .before in
+      let s = c .before .before .before .before .before .before .before .before .before .before .before .before .before .before .before .before in
       let w = s .pre .1 .0 .0 in
       let some = s .pre .1 .1 .0 in
-      let v = child-walked (c .before .before .before .before .before .before .before .before .before .before .left-run .ensures) (left-in (c .before .before .before .before .before .before .before .before)) (s .args .order .now) (c .before .before .before .before .branch .ensures) in
+      let l = left-is (c .before .before .before .before .before .before .before .before) in
+      let v = child-walked l (s .args .order .now) (c .before .before .before .before .branch .ensures) in
       let half = run-length (s .args .order .now) (s .args .run .start) (s .args .run .length / 2) (omega arith) in
       omega (arith, walked-numbers v, v .filled .size)
 
   node-branch-requires-2 : node-lts.Need-branch-requires-2 node-calls node-at node.Post
   node-branch-requires-2 c κs =
-      let s = c .before .before .before .before .before .before .before .before .before .before .before .before .before .before .before .before .before .before .before .before .before .before in
+      let s = c .before .before .before .before .before .before .before .before .before .before .before .before .before .before .before .before .before .before .before .before in
       let w = s .pre .1 .0 .0 in
       let lives = s .pre .1 .0 .1 in
       let some = s .pre .1 .1 .0 in
-      let v = child-walked (c .before .before .before .before .before .before .before .before .before .before .before .before .before .before .left-run .ensures) (left-in (c .before .before .before .before .before .before .before .before .before .before .before .before)) (s .args .order .now) (c .before .before .before .before .before .before .before .before .branch .ensures) in
+      let l = left-is (c .before .before .before .before .before .before .before .before .before .before .before .before) in
+      let v = child-walked l (s .args .order .now) (c .before .before .before .before .before .before .before .before .branch .ensures) in
       let own = ready-own (w .ready) some in
       let told = c .before .before .before .before .before .inside-live .ensures .tells lives own in
       let f = rw (told, v .filled .size, w .ready .size) at (c .before .before .before .place .ensures) in
-      let r = c .before .before .before .before .before .before .before .before .before .before .before .before .before .right-run .ensures in
-      let b = right-in (c .before .before .before .before .before .before .before .before .before .before .before) in (
+      let r = right-is (c .before .before .before .before .before .before .before .before .before .before .before) in (
         omega (arith, s .pre .0, r .slots),
-        (child-walkable r b (walkable-right w some v f), child-lives r b (lives-nested (right-nested own _) lives)),
+        (child-walkable r (walkable-right w some v f), child-lives r (lives-nested (right-nested own _) lives), child-splits r (s .args .k) (next-is (c .before .before .before .before .before .before .before .before .before .before .before .before .before))),
       )
 
   node-returns : node-lts.Need-returns node-calls node-at node.Post
   node-returns c =
-      let s = c .before .before .before .before .before .before .before .before .before .before .before .before .before .before .before .before .before .before .before .before .before .before .before .before .before in
+      let s = c .before .before .before .before .before .before .before .before .before .before .before .before .before .before .before .before .before .before .before .before .before .before .before in
       let w = s .pre .1 .0 .0 in
       let lives = s .pre .1 .0 .1 in
       let some = s .pre .1 .1 .0 in
-      let v = child-walked (c .before .before .before .before .before .before .before .before .before .before .before .before .before .before .before .before .before .left-run .ensures) (left-in (c .before .before .before .before .before .before .before .before .before .before .before .before .before .before .before)) (s .args .order .now) (c .before .before .before .before .before .before .before .before .before .before .before .branch .ensures) in
+      let l = left-is (c .before .before .before .before .before .before .before .before .before .before .before .before .before .before .before) in
+      let v = child-walked l (s .args .order .now) (c .before .before .before .before .before .before .before .before .before .before .before .branch .ensures) in
       let own = ready-own (w .ready) some in
       let told = c .before .before .before .before .before .before .before .before .inside-live .ensures .tells lives own in
       let f = rw (told, v .filled .size, w .ready .size) at (c .before .before .before .before .before .before .place .ensures) in
-      let last = child-walked (c .before .before .before .before .before .before .before .before .before .before .before .before .before .before .before .before .right-run .ensures) (right-in (c .before .before .before .before .before .before .before .before .before .before .before .before .before .before)) (s .args .order .now) (c .before .before .branch2 .ensures) in
-      walked-node (w .ready) some v f (s .pre .1 .1 .1) last
+      let r = right-is (c .before .before .before .before .before .before .before .before .before .before .before .before .before .before) in
+      walked-node (w .ready) some v f (s .pre .1 .1 .1) (child-walked r (s .args .order .now) (c .before .before .branch2 .ensures))
 
   node-same-length : node-lts.Need-same-length node-calls node-at node.Post
   node-same-length c = node-returns c .filled .size
@@ -350,15 +357,13 @@ pub +branch+node-spec : {M : Type 1} → statement M
     (branch-same-length-3 t)
     (branch-returns-4 t))
     λ t. node-lts.spec (node-calls t) (node-at t) node.Post
-    (node-rem-s t)
     (node-add-middle t)
     (node-mul-p t)
     (node-shared-slice-read-p t)
     (node-coordinate-requires t)
+    (node-next-axis-requires t)
     (node-left-run-requires t)
     (node-right-run-requires t)
-    (node-left-box-requires t)
-    (node-right-box-requires t)
     (node-add-start t)
     (node-branch-requires t)
     (node-cast-inside-live t)

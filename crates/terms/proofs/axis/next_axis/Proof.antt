@@ -3,8 +3,8 @@ use mathlib.Core.Path.{sym, ap, _∙_}
 use Prim.Native.Nat.{ℕ, _%_}
 use native.Mathlib.Nat.{mod-eq-of-lt, mod-self}
 use native.Mathlib.Omega.{arith}
-use Rattle.arrange.proofs.axis.next_axis.Statement.{statement}
-use Rattle.arrange.proofs.axis.next_axis.Tie as tie
+use Rattle.terms.proofs.axis.next_axis.Statement.{statement}
+use Rattle.terms.proofs.axis.next_axis.Tie as tie
 
 add-if1 : tie.Need-add-if1
 add-if1 c = omega arith

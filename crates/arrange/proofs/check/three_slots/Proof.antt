@@ -5,8 +5,8 @@ use lib.ListN.{getD}
 use borrow.Author.Needs.{needs}
 use Rattle.theory.specs.Answers.{refused, accepted}
 use Rattle.arrange.specs.Checked.{threeAllowed, three-keyed, on-three}
-use Rattle.arrange.proofs.check.three.Statement.{statement}
-use Rattle.arrange.proofs.check.three.Tie as tie
+use Rattle.arrange.proofs.check.three_slots.Statement.{statement}
+use Rattle.arrange.proofs.check.three_slots.Tie as tie
 
 shared-slice-read-p : tie.Need-shared-slice-read-p
 shared-slice-read-p c = search needs
@@ -45,8 +45,8 @@ returns-2 c =
     rw (c .before .before .key .ensures, c .before .key2 .ensures, c .key3 .ensures)
     (sym (on-three (b .pre .0) (b .args .order .now) (b .pre .1) ∙ rw (all-allowed (c .before .before .before))))
 
-pub three-spec : {M : Type 1} → statement M
-three-spec =
+pub three-slots-spec : {M : Type 1} → statement M
+three-slots-spec =
     tie.close
     (tie.spec
     shared-slice-read-p

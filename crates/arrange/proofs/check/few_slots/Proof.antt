@@ -8,8 +8,8 @@ use borrow.Author.Needs.{needs}
 use Rattle.theory.specs.Answers.{refused, accepted}
 use Rattle.arrange.specs.Descent.{empty-branch, lone-slot}
 use Rattle.arrange.specs.Checked.{threeAllowed, three-keyed, on-two}
-use Rattle.arrange.proofs.check.few.Statement.{statement}
-use Rattle.arrange.proofs.check.few.Tie as tie
+use Rattle.arrange.proofs.check.few_slots.Statement.{statement}
+use Rattle.arrange.proofs.check.few_slots.Tie as tie
 
 returns : tie.Need-returns
 returns c = sym (empty-branch _ _ _ _ _ _ _ _ (c .if1 .taken))
@@ -55,8 +55,8 @@ returns-4 c =
     rw (c .before .key .ensures, c .key2 .ensures)
     (sym (on-two (b .pre .0) (b .args .order .now) (two (c .before .before .before .before .before)) ∙ rw (both-allowed (c .before .before))))
 
-pub few-spec : {M : Type 1} → statement M
-few-spec =
+pub few-slots-spec : {M : Type 1} → statement M
+few-slots-spec =
     tie.close
     (tie.spec
     returns

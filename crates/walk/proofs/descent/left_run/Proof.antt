@@ -1,0 +1,20 @@
+-- Each number is as computed, and the box is the one with one entry replaced.
+use mathlib.Core.Path.{refl}
+use mir.Facts.{toZ-ofZ}
+use borrow.Author.Needs.{needs}
+use Rattle.walk.proofs.descent.left_run.Statement.{statement}
+use Rattle.walk.proofs.descent.left_run.Tie as tie
+
+left-box-requires : tie.Need-left-box-requires
+left-box-requires c κs = search needs
+
+add-t7 : tie.Need-add-t7
+add-t7 c = search needs
+
+returns : tie.Need-returns
+returns c =
+    let x = toZ-ofZ (c .before .before .before .before .fits .x) in
+    record { starts = refl; slots = refl; deeper = refl; splits = refl; faces = refl; in-box = rw x at (c .before .before .left-box .ensures) }
+
+pub left-run-spec : {M : Type 1} → statement M
+left-run-spec = tie.close (tie.spec left-box-requires add-t7 returns)
