@@ -1,6 +1,7 @@
 pub mod Key
 pub mod Rearranged
 pub mod Parted
+pub mod Passes
 pub mod LeastFirst
 pub mod Chosen
 pub mod WrittenInPlace

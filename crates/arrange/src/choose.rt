@@ -1,12 +1,13 @@
 // Choosing in place: the number that belongs at a place of a run, with no greater one before it and no smaller one after it.
-// A part of the run that holds it is narrowed by passes; what the pivots are decides only how soon it is small. A pivot comes from a
-// sample. After a pass that hardly narrowed the part, and after 30 passes, it is counted out exactly, which takes 32 passes at most; one more
-// cuts the part at its place, and one brings it there. So no run whose numbers all differ, as keys do, takes more than 64 passes.
+// A part of the run that holds it is narrowed by passes; what the pivots are decides only how soon it is small. Every other pivot is the
+// middle of the range of those that are left, so that no run takes more than 64 passes. The others come from the part's numbers: from a
+// sample of them, or, where the passes have narrowed the part too little, from them all by counting, which finds the number itself.
 ghost use Prim.Native.Nat.{_+_, _*_, _<_, _≤_};
 ghost use lib.ListN.{length};
 ghost use Rattle.arrange.specs.Parted.{Parted};
 ghost use Rattle.arrange.specs.LeastFirst.{IfLess, LeastFirst};
 ghost use Rattle.arrange.specs.Chosen.{Narrowed, Chosen};
+ghost use Rattle.arrange.specs.Passes.{PivotOf};
 
 // Puts the numbers of the places from a to e that are below the pivot first, and returns where the others start.
 // Every number is swapped, and the start moves by one or by none, so that no branch waits on what the numbers are.
@@ -123,14 +124,19 @@ fn counted_pivot(part: &[u32], rank: usize, lo: u32, top: u32) -> u32
     l
 }
 
-// A pivot above lo and at most top: from a sample, or by counting.
-fn next_pivot(part: &[u32], rank: usize, lo: u32, top: u32, counting: bool) -> u32
+// The pivot of a pass, one of 64, above lo and at most top. Every other one is the middle of that range; the others come from the numbers
+// of the part, by counting where it is late and else by a sample.
+fn next_pivot(part: &[u32], rank: usize, lo: u32, top: u32, pass: u32, late: bool) -> u32
     requires { ⌜ 8 < length (now part) ⌝ }
     requires { ⌜ length (now part) ≤ 65535 ⌝ }
     requires { ⌜ lo < top ⌝ }
-    ensures { λ r. ⌜ (lo < r) × (r ≤ top) ⌝ }
+    requires { ⌜ pass < 64 ⌝ }
+    ensures { λ r. ⌜ PivotOf lo top pass r ⌝ }
 {
-    let pivot = if counting {
+    if pass % 2 == 1 {
+        return lo + (top - lo) / 2 + 1;
+    }
+    let pivot = if late {
         counted_pivot(part, rank, lo, top)
     } else {
         sampled_pivot(part, rank)
@@ -157,8 +163,8 @@ fn finish(run: &mut [u32], a: usize, e: usize, m: usize)
     least_first(run, i, e);
 }
 
-// Puts the number that belongs at the place m there. The part from a to e that holds it is narrowed by pivots between lo and top,
-// of which each pass leaves fewer, and a small part is finished by its least numbers.
+// Puts the number that belongs at the place m there. The part from a to e that holds it is narrowed by pivots between lo and top, and a
+// small part is finished by its least numbers. A part is late if it is longer than is due, which falls by an eighth with each pass.
 pub fn choose(run: &mut [u32], m: usize)
     requires { ⌜ m < length (now run) ⌝ }
     requires { ⌜ length (now run) ≤ 65535 ⌝ }
@@ -169,10 +175,10 @@ pub fn choose(run: &mut [u32], m: usize)
     let mut lo: u32 = 0;
     let mut top: u32 = 0xffff_ffff;
     let mut pass: u32 = 0;
-    let mut counting = false;
-    while 8 < e - a && a < m && lo < top && pass < 31 {
-        let size = e - a;
-        let pivot = next_pivot(&run[a..e], m - a, lo, top, counting);
+    let mut due = e + e / 4;
+    while 8 < e - a && a < m && lo < top {
+        let late = due < e - a;
+        let pivot = next_pivot(&run[a..e], m - a, lo, top, pass, late);
         let r = partition(run, a, e, pivot);
         if m < r {
             e = r;
@@ -182,7 +188,7 @@ pub fn choose(run: &mut [u32], m: usize)
             lo = pivot;
         }
         pass += 1;
-        counting = (pass == 30) | (size - size / 8 < e - a);
+        due -= due / 8;
     }
     finish(run, a, e, m);
 }

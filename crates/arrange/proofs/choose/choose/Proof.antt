@@ -1,28 +1,32 @@
--- The invariant is that the part from a to e holds the number of the place m. A pass by a pivot cuts the part in two and keeps one half, and
--- the range of the pivots, lo to top, shrinks with it: that is the measure.
+-- The invariant is that the part from a to e holds the number of the place m, and that lo and top lie as close as the passes so far leave them.
+-- A pass by a pivot cuts the part and the range of the pivots in two and keeps one half of each; the passes left of the 64 are the measure.
 use mathlib.Core.Logic.{⊎-elim}
-use Prim.Native.Nat.{_-_, _<_}
+use Prim.Native.Nat.{_+_, _-_}
 use native.Mathlib.Omega.{arith}
 use borrow.Author.Tests.{ltb-true}
 use Rattle.theory.specs.Counting.{same-length}
 use Rattle.arrange.specs.Chosen.{Narrowed, narrowed-all, narrowed-left, narrowed-right, narrowed-here, chosen-from}
+use Rattle.arrange.specs.Passes.{Passed, passed-none, pass-left, passed-left, passed-right}
 use Rattle.arrange.proofs.choose.choose.Statement.{statement}
 use Rattle.arrange.proofs.choose.choose.Tie as tie
 
 abbrev Inv-loop : tie.InvT-loop
-Inv-loop run₀ m a₀ e₀ lo₀ top₀ pass₀ counting₀ run a e lo top pass counting = Narrowed run₀ run m a e
+Inv-loop run₀ m a₀ e₀ lo₀ top₀ pass₀ due₀ run a e lo top pass due = Narrowed run₀ run m a e × Passed lo top pass
 
 abbrev μ-loop : tie.MeasureT-loop
-μ-loop run₀ m a₀ e₀ lo₀ top₀ pass₀ counting₀ run a e lo top pass counting = top - lo
+μ-loop run₀ m a₀ e₀ lo₀ top₀ pass₀ due₀ run a e lo top pass due = 64 - pass
+
+add-due : tie.Need-add-due Inv-loop μ-loop
+add-due c = omega arith
 
 loop-holds : tie.Need-loop-holds Inv-loop μ-loop
-loop-holds c = narrowed-all (c .before .args .run .now) (c .before .args .m) (c .before .pre .0)
+loop-holds c = (narrowed-all (c .before .args .run .now) (c .before .args .m) (c .before .pre .0), passed-none)
 
 sub-loop : tie.Need-sub-loop Inv-loop μ-loop
 sub-loop c = omega arith
 
-sub-size : tie.Need-sub-size Inv-loop μ-loop
-sub-size c = omega arith
+sub-late : tie.Need-sub-late Inv-loop μ-loop
+sub-late c = omega arith
 
 mul-next-pivot : tie.Need-mul-next-pivot Inv-loop μ-loop
 mul-next-pivot c = omega arith
@@ -40,7 +44,9 @@ sub-next-pivot-2 : tie.Need-sub-next-pivot-2 Inv-loop μ-loop
 sub-next-pivot-2 c = omega arith
 
 next-pivot-requires : tie.Need-next-pivot-requires Inv-loop μ-loop
-next-pivot-requires c κs = omega (arith, ltb-true)
+next-pivot-requires c κs =
+    let l = c .before .before .before .before .before .loop .inv .1 in
+    omega (arith, ltb-true, pass-left l (omega (arith, ltb-true)))
 
 partition-requires : tie.Need-partition-requires Inv-loop μ-loop
 partition-requires c κs = omega arith
@@ -48,39 +54,37 @@ partition-requires c κs = omega arith
 sub-top : tie.Need-sub-top Inv-loop μ-loop
 sub-top c = omega arith
 
--- after a pass the half with the place m is the part, and fewer pivots are left
-halved : (c : tie.Joined4 Inv-loop μ-loop)
-    → (let before = c .before .before .before .before .before .before .before .before .before .before .before .before in
-    Narrowed (before .before .before .args .run .now) (c .before .before .before .partition .last .0) (before .before .before .args .m) (c .if4 .a) (c .if4 .e)
-    × (c .if4 .top - c .if4 .lo < before .loop .top - before .loop .lo))
+-- after a pass the half with the place m is the part, and its half of the pivots is the range
+halved : (c : tie.Joined3 Inv-loop μ-loop)
+    → (let before = c .before .before .before .before .before .before .before .before .before .before .before in
+    Narrowed (before .before .before .args .run .now) (c .before .before .before .partition .last .0) (before .before .before .args .m) (c .if3 .a) (c .if3 .e)
+    × Passed (c .if3 .lo) (c .if3 .top) (before .loop .pass + 1))
 halved c =
-    let l = c .before .before .before .before .before .before .before .before .before .before .before .before .loop in
+    let l = c .before .before .before .before .before .before .before .before .before .before .before .loop .inv in
     let p = c .before .before .before .partition .ensures in
+    let v = c .before .before .before .before .before .next-pivot .ensures in
     ⊎-elim
-    (λ w. (rw (w .1, w .2) (narrowed-left (l .inv) p (w .0 .taken)), omega arith))
-    (λ w. (rw (w .1, w .2) (narrowed-right (l .inv) p (w .0 .left)), omega arith))
-    (c .if4 .came)
+    (λ w. rw (w .1, w .2, w .3, w .4) (narrowed-left (l .0) p (w .0 .taken), passed-left (l .1) v))
+    (λ w. rw (w .1, w .2, w .3, w .4) (narrowed-right (l .0) p (w .0 .left), passed-right (l .1) v))
+    (c .if3 .came)
 
 add-pass : tie.Need-add-pass Inv-loop μ-loop
-add-pass c = omega (arith, ltb-true)
+add-pass c = let w = halved c .1 in omega (arith, w .most)
 
-sub-counting : tie.Need-sub-counting Inv-loop μ-loop
-sub-counting c = omega arith
-
-sub-counting-2 : tie.Need-sub-counting-2 Inv-loop μ-loop
-sub-counting-2 c = let n = halved (c .before .before) .0 in omega (arith, n .from, n .to)
+sub-due : tie.Need-sub-due Inv-loop μ-loop
+sub-due c = omega arith
 
 loop-less : tie.Need-loop-less Inv-loop μ-loop
-loop-less c = halved (c .before .before) .1
+loop-less c = let w = halved c .1 in omega (arith, w .most)
 
 loop-again : tie.Need-loop-again Inv-loop μ-loop
-loop-again c = halved (c .before .before) .0
+loop-again c = halved c
 
 finish-requires : tie.Need-finish-requires Inv-loop μ-loop
-finish-requires c κs = narrowed-here (c .before .before .loop .inv)
+finish-requires c κs = narrowed-here (c .before .before .loop .inv .0)
 
 returns : tie.Need-returns Inv-loop μ-loop
-returns c = chosen-from (c .before .before .before .before .before .loop .inv .same) (c .before .before .finish .ensures)
+returns c = chosen-from (c .before .before .before .before .before .loop .inv .0 .same) (c .before .before .finish .ensures)
 
 keeps-length : tie.Need-same-length Inv-loop μ-loop
 keeps-length c = same-length (returns c .same)
@@ -91,9 +95,10 @@ choose-spec =
     (tie.spec
     Inv-loop
     μ-loop
+    add-due
     loop-holds
     sub-loop
-    sub-size
+    sub-late
     mul-next-pivot
     sub-next-pivot
     part-next-pivot-start
@@ -103,8 +108,7 @@ choose-spec =
     partition-requires
     sub-top
     add-pass
-    sub-counting
-    sub-counting-2
+    sub-due
     loop-less
     loop-again
     finish-requires
