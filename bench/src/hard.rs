@@ -1,17 +1,24 @@
 //! Shelves that are hard for some way of building.
 
-use crate::adversary::{against_samples, against_select};
+use crate::against_pivots::{against_pivots, Play};
+use crate::against_select::against_select;
 use crate::numbers::Numbers;
 use crate::stock::{any_coordinate, Kind, LEAST};
 
-/// The kind that is made against the library's own way to choose a pivot.
-pub const AGAINST_SAMPLES: Kind = Kind {
-    name: "against samples, an eighth",
-    make: |k, n, _| against_samples(k, n, 8),
+/// The kind that is made against the library's own way to choose pivots.
+pub const AGAINST_PIVOTS: Kind = Kind {
+    name: "against pivots, as few as can be",
+    make: |k, n, _| {
+        let play = Play {
+            taken: 0,
+            counts: true,
+        };
+        against_pivots(k, n, play)
+    },
 };
 
 /// The hard kinds. Each is the worst that was found for some engine, or a classic that has broken others.
-pub const HARD: [Kind; 13] = [
+pub const HARD: [Kind; 14] = [
     Kind {
         name: "sorted",
         make: |k, n, _| by_number(k, n, |p, n| p * 65_535 / n),
@@ -52,10 +59,26 @@ pub const HARD: [Kind; 13] = [
         name: "doubling distances",
         make: doubling,
     },
-    AGAINST_SAMPLES,
+    AGAINST_PIVOTS,
     Kind {
-        name: "against samples, a sixty-fourth",
-        make: |k, n, _| against_samples(k, n, 64),
+        name: "against pivots, an eighth",
+        make: |k, n, _| {
+            let play = Play {
+                taken: 8,
+                counts: true,
+            };
+            against_pivots(k, n, play)
+        },
+    },
+    Kind {
+        name: "against pivots, none counted",
+        make: |k, n, _| {
+            let play = Play {
+                taken: 0,
+                counts: false,
+            };
+            against_pivots(k, n, play)
+        },
     },
     Kind {
         name: "against the standard select",

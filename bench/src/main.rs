@@ -1,6 +1,7 @@
 //! Measures the library beside other ways to do the same, and prints one table of ratios.
 
-mod adversary;
+mod against_pivots;
+mod against_select;
 mod builder;
 mod builds;
 mod clock;
@@ -15,7 +16,6 @@ mod plan;
 mod plot;
 mod region;
 mod rows;
-mod samples;
 mod scan;
 mod stock;
 mod table;

@@ -1,7 +1,7 @@
 //! Which shelves and regions are measured.
 
 use crate::builds;
-use crate::hard::{AGAINST_SAMPLES, HARD};
+use crate::hard::{AGAINST_PIVOTS, HARD};
 use crate::lists::{self, Shelf};
 use crate::measured::Measured;
 use crate::region::{one_plane, slanted, square, Region};
@@ -33,7 +33,7 @@ impl Plan {
             out.extend(self.shelf(CLUSTERED, DIMENSION, n, regions));
         }
         if self.quick {
-            out.extend(self.shelf(AGAINST_SAMPLES, DIMENSION, FULL, no_region));
+            out.extend(self.shelf(AGAINST_PIVOTS, DIMENSION, FULL, no_region));
             return out;
         }
         for k in [1, 2, 4] {

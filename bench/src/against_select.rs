@@ -1,36 +1,22 @@
-//! Shelves made against an engine: what the numbers are is decided only when the engine looks at them.
+//! Shelves made against the standard library's select: what the numbers are is decided only when it looks at them.
 
-use crate::samples::decide_for_samples;
 use crate::stock::LEAST;
 use std::cell::RefCell;
 use std::cmp::Ordering;
 
 /// The rank of an item that is not decided yet; it counts as greater than every decided one.
-pub const UNDECIDED: usize = usize::MAX;
+const UNDECIDED: usize = usize::MAX;
 
-/// Decides the ranks of a run: puts its numbers where the engine would leave them, and gives the rank in each place.
-type Decide<'a> = &'a dyn Fn(&mut [u32]) -> Vec<usize>;
-
-/// Points on which an engine that samples three or nine numbers of a run throws away one part in `parts` each time.
-pub fn against_samples(k: usize, n: usize, parts: usize) -> Vec<i32> {
-    decided(k, n, &|run| decide_for_samples(run, parts))
-}
-
-/// Points on which the standard library's select finds pivots as bad as can be.
+/// Points on which select finds pivots as bad as can be. Each dimension is decided at the depth that first splits on it.
 pub fn against_select(k: usize, n: usize) -> Vec<i32> {
-    decided(k, n, &decide_for_select)
-}
-
-/// Points of which each dimension is decided at the depth that first splits on it.
-fn decided(k: usize, n: usize, decide: Decide) -> Vec<i32> {
     let mut points = vec![0; k * n];
     let mut order: Vec<u32> = (0..n as u32).collect();
-    decide_branch(&mut points, k, 0, &mut order, decide);
+    decide_branch(&mut points, k, 0, &mut order);
     points
 }
 
 /// Decides a branch on the dimension of its depth, then its two branches on the next, until there is none.
-fn decide_branch(points: &mut [i32], k: usize, depth: usize, run: &mut [u32], decide: Decide) {
+fn decide_branch(points: &mut [i32], k: usize, depth: usize, run: &mut [u32]) {
     if depth == k || run.is_empty() {
         return;
     }
@@ -39,12 +25,12 @@ fn decide_branch(points: &mut [i32], k: usize, depth: usize, run: &mut [u32], de
         points[number as usize * k + depth] = LEAST + rank as i32;
     }
     let middle = run.len() / 2;
-    decide_branch(points, k, depth + 1, &mut run[..middle], decide);
-    decide_branch(points, k, depth + 1, &mut run[middle + 1..], decide);
+    decide_branch(points, k, depth + 1, &mut run[..middle]);
+    decide_branch(points, k, depth + 1, &mut run[middle + 1..]);
 }
 
 /// Puts the numbers where the items went, and gives the ranks in that order. Items left undecided get the ranks that are left.
-pub fn settle(run: &mut [u32], items: &[usize], mut ranks: Vec<usize>) -> Vec<usize> {
+fn settle(run: &mut [u32], items: &[usize], mut ranks: Vec<usize>) -> Vec<usize> {
     let mut next = ranks.iter().filter(|&&rank| rank != UNDECIDED).count();
     for &item in items {
         if ranks[item] == UNDECIDED {
@@ -83,8 +69,8 @@ impl Watched {
     }
 }
 
-/// Decides the ranks of a run while the standard library selects its middle.
-fn decide_for_select(run: &mut [u32]) -> Vec<usize> {
+/// Decides the ranks of a run while its middle is selected, and puts its numbers where that leaves them.
+fn decide(run: &mut [u32]) -> Vec<usize> {
     let watched = RefCell::new(Watched {
         ranks: vec![UNDECIDED; run.len()],
         decided: 0,
