@@ -118,12 +118,15 @@ impl Walk<'_> {
         }
     }
 
-    /// Counts the visit, walks the left branch, lists the node by its own test, and walks the right branch.
+    /// Counts the visit, walks the left branch, lists the node by its own test, and walks the right branch. A node alone is only listed.
     fn node(&mut self, start: usize, length: usize, s: usize, rows: Rows, live: &[u8]) {
         self.visits += 1;
         let half = length / 2;
         let number = self.order[start + half];
         let point = self.point(number);
+        if length == 1 {
+            return self.place(number, point, live);
+        }
         let next = if s + 1 == self.stock.k { 0 } else { s + 1 };
         let (mut left, mut right) = (rows, rows);
         left.high[s] = point[s];

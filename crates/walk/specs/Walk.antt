@@ -215,3 +215,12 @@ module _ {g : Region} {at : ℕ → ℕ → ℤ} {order : List ℕ} {a c j : ℕ
         let right = run-rights order a c (r .fits) some in
         walked-open (runOf order a c) (rw (run-length order a c (r .fits)) some) e
         (rw (← left, ← own, add-one j) at v) (rw (← own) at f) (rw (← right, ← own, add-one j) at w)
+
+  -- A node alone in its branch: its own number is all there is to walk.
+  pub walked-alone : {next : List ℕ} {i' o' u' : ℕ} → c ≡ 1 → isOpen g b ≡ true
+      → Placed (length order) list next (ownOf order a c) (inside g (at (ownOf order a c))) i o (u + 1) i' o' u'
+      → Walked g at j (runOf order a c) b (length order) list next i o u i' o' u'
+  walked-alone one e f =
+      let left : c / 2 ≡ 0 = omega arith in
+      let right : c - c / 2 - 1 ≡ 0 = omega arith in
+      walked-node (rw left (walked-empty _ _ _ _ _ _ _ _ _)) f e (rw right (walked-empty _ _ _ _ _ _ _ _ _))

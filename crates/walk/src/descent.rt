@@ -112,7 +112,8 @@ pub fn branch(
     node(k, points, order, normals, offsets, open, &next, list, tally)
 }
 
-// The part for the node of an open branch: one visit, the left branch, its own number by its own test, the right branch.
+// The part for the node of an open branch: one visit, the left branch, its own number by its own test, the right branch. A node alone in its
+// branch goes to its list at once.
 fn node(
     k: usize,
     points: &[i32],
@@ -131,15 +132,18 @@ fn node(
 {
     let middle = run.start + run.length / 2;
     let p = order[middle];
+    let h = offsets.len();
+    let inside = inside_live(k, h, points, normals, offsets, p as usize, live, run.count);
+    let mut start = tally;
+    start.visits += 1;
+    if run.length == 1 {
+        return place(inside, p, list, start);
+    }
     let x = coordinate(k, points, p, run.axis);
     let next = next_axis(k, run.axis);
     let left = left_run(run, x, next);
     let right = right_run(run, x, next);
-    let mut start = tally;
-    start.visits += 1;
     let first = branch(k, points, order, normals, offsets, left, live, list, start);
-    let h = offsets.len();
-    let inside = inside_live(k, h, points, normals, offsets, p as usize, live, run.count);
     let own = place(inside, p, list, first);
     branch(k, points, order, normals, offsets, right, live, list, own)
 }

@@ -13,7 +13,7 @@ use Rattle.theory.specs.BoxLaws.{left-nested, right-nested}
 use Rattle.region.specs.Live.{lives-nested}
 use Rattle.region.specs.Judged.{judged-above, judged-open}
 use Rattle.walk.specs.Slots.{lent-length, run-length}
-use Rattle.walk.specs.Walk.{ownOf, ready-own, walked-empty, walked-inside, walked-outside, walked-node, walked-numbers}
+use Rattle.walk.specs.Walk.{ownOf, ready-own, walked-empty, walked-inside, walked-outside, walked-node, walked-alone, walked-numbers}
 use Rattle.walk.specs.Descent.{own-point, axis-below, axis-small, walkable-left, walkable-right}
 use Rattle.walk.specs.Descent.{Child, child-walkable, child-lives, child-splits, child-walked}
 use borrow.Fn.Kinds.{In}
@@ -71,6 +71,10 @@ module _ (t : ℕ) where
 
   abbrev node-calls : node-lts.Claims
   node-calls = (
+    inside-live.Asked,
+    inside-live.Learnt,
+    place.Asked,
+    place.Learnt,
     coordinate.Asked,
     coordinate.Learnt,
     next-axis.Asked,
@@ -81,10 +85,6 @@ module _ (t : ℕ) where
     right-run.Learnt,
     branch-below,
     branch.Post,
-    inside-live.Asked,
-    inside-live.Learnt,
-    place.Asked,
-    place.Learnt,
   )
 
   branch-returns : branch-lts.Need-returns branch-calls branch-at branch.Post
@@ -191,7 +191,7 @@ module _ (t : ℕ) where
 
   -- The two branches that the node part goes on to.
   left-is : (c : node-lts.After-left-run node-calls node-at node.Post) →
-      let a = c .before .before .before .before .before .before .before .before .args in
+      let a = c .before .before .before .before .before .before .before .before .before .before .before .before .args in
       let r = a .run in
       let p = ownOf (a .order .now) (r .start) (r .length) in
       let child = c .left-run .result in
@@ -200,10 +200,10 @@ module _ (t : ℕ) where
       (child .start) (child .length) (child .depth) (child .axis) (child .count) (boxOf (child .rows))
   left-is c =
       let x = c .before .before .coordinate in
-      rw (toZ-ofZ {w = w32} (sfits-of (x .ok)), x .ensures, c .before .before .before .before .before .before .before .before .pre .1 .0 .2) at (c .left-run .ensures)
+      rw (toZ-ofZ {w = w32} (sfits-of (x .ok)), x .ensures, c .before .before .before .before .before .before .before .before .before .before .before .before .pre .1 .0 .2) at (c .left-run .ensures)
 
   right-is : (c : node-lts.After-right-run node-calls node-at node.Post) →
-      let a = c .before .before .before .before .before .before .before .before .before .args in
+      let a = c .before .before .before .before .before .before .before .before .before .before .before .before .before .args in
       let r = a .run in
       let p = ownOf (a .order .now) (r .start) (r .length) in
       let child = c .right-run .result in
@@ -212,12 +212,12 @@ module _ (t : ℕ) where
       (child .start) (child .length) (child .depth) (child .axis) (child .count) (boxOf (child .rows))
   right-is c =
       let x = c .before .before .before .coordinate in
-      rw (toZ-ofZ {w = w32} (sfits-of (x .ok)), x .ensures, c .before .before .before .before .before .before .before .before .before .pre .1 .0 .2) at (c .right-run .ensures)
+      rw (toZ-ofZ {w = w32} (sfits-of (x .ok)), x .ensures, c .before .before .before .before .before .before .before .before .before .before .before .before .before .pre .1 .0 .2) at (c .right-run .ensures)
 
   -- The dimension that they split on.
-  next-is : (c : node-lts.After-next-axis node-calls node-at node.Post) → let a = c .before .before .before .before .before .before .before .args in
+  next-is : (c : node-lts.After-next-axis node-calls node-at node.Post) → let a = c .before .before .before .before .before .before .before .before .before .before .before .args in
       c .next-axis .result ≡ axis (a .k) (axis (a .k) (a .run .depth) + 1)
-  next-is c = rw (c .before .before .before .before .before .before .before .pre .1 .0 .2) at (c .next-axis .ensures)
+  next-is c = rw (c .before .before .before .before .before .before .before .before .before .before .before .pre .1 .0 .2) at (c .next-axis .ensures)
 
   node-add-middle : node-lts.Need-add-middle node-calls node-at node.Post
   node-add-middle c = omega arith
@@ -228,19 +228,59 @@ module _ (t : ℕ) where
   node-shared-slice-read-p : node-lts.Need-shared-slice-read-p node-calls node-at node.Post
   node-shared-slice-read-p c = omega arith
 
+  node-cast-inside-live : node-lts.Need-cast-inside-live node-calls node-at node.Post
+  node-cast-inside-live c =
+      let r = c .before .before .before .before .before .args .run in
+      omega (arith, c .shared-slice-known2 .given (r .start + r .length / 2))
+
+  node-inside-live-requires : node-lts.Need-inside-live-requires node-calls node-at node.Post
+  node-inside-live-requires c κs =
+      let s = c .before .before .before .before .before in
+      let w = s .pre .1 .0 .0 in
+      let lives = s .pre .1 .0 .1 in
+      let some = s .pre .1 .1 .0 in
+      (w .faces, (own-point w some, lives .live))
+
+  node-add-start : node-lts.Need-add-start node-calls node-at node.Post
+  node-add-start c =
+      let s = c .before .before .before .before .before .before .before in
+      let w = s .pre .1 .0 .0 in
+      let some = s .pre .1 .1 .0 in
+      let r = w .ready in
+      omega arith
+
+  node-place-requires : node-lts.Need-place-requires node-calls node-at node.Post
+  node-place-requires c κs =
+      let s = c .before .before .before .before .before .before .before .before .before .before in
+      let r = s .pre .1 .0 .0 .ready in
+      let some = s .pre .1 .1 .0 in
+      omega (arith, r .room, r .size)
+
+  node-returns : node-lts.Need-returns node-calls node-at node.Post
+  node-returns c =
+      let s = c .before .before .before .before .before .before .before .before .before .before .before .before .before in
+      let w = s .pre .1 .0 .0 in
+      let some = s .pre .1 .1 .0 in
+      let told = c .before .before .before .before .before .before .before .inside-live .ensures .tells (s .pre .1 .0 .1) (ready-own (w .ready) some) in
+      let f = rw (told, w .ready .size) at (c .before .before .place .ensures) in
+      walked-alone (w .ready) some (c .before .before .before .before .if1 .taken) (s .pre .1 .1 .1) f
+
+  node-same-length : node-lts.Need-same-length node-calls node-at node.Post
+  node-same-length c = node-returns c .filled .size
+
   node-coordinate-requires : node-lts.Need-coordinate-requires node-calls node-at node.Post
   node-coordinate-requires c κs =
-      let s = c .before .before .before .before .before in
+      let s = c .before .before .before .before .before .before .before .before .before in
       let w = s .pre .1 .0 .0 in
       let some = s .pre .1 .1 .0 in
       (own-point w some, splits-below s)
 
   node-next-axis-requires : node-lts.Need-next-axis-requires node-calls node-at node.Post
-  node-next-axis-requires c κs = splits-below (c .before .before .before .before .before .before)
+  node-next-axis-requires c κs = splits-below (c .before .before .before .before .before .before .before .before .before .before)
 
   node-left-run-requires : node-lts.Need-left-run-requires node-calls node-at node.Post
   node-left-run-requires c κs =
-      let s = c .before .before .before .before .before .before .before in
+      let s = c .before .before .before .before .before .before .before .before .before .before .before in
       let w = s .pre .1 .0 .0 in
       let some = s .pre .1 .1 .0 in
       let r = w .ready in
@@ -248,87 +288,66 @@ module _ (t : ℕ) where
 
   node-right-run-requires : node-lts.Need-right-run-requires node-calls node-at node.Post
   node-right-run-requires c κs =
-      let s = c .before .before .before .before .before .before .before .before in
+      let s = c .before .before .before .before .before .before .before .before .before .before .before .before in
       let w = s .pre .1 .0 .0 in
       let some = s .pre .1 .1 .0 in
       let r = w .ready in
       (splits-small s, (omega arith, (some, omega arith)))
 
-  node-add-start : node-lts.Need-add-start node-calls node-at node.Post
-  node-add-start c =
-      let s = c .before .before .before .before .before .before .before .before .before .before in
-      let w = s .pre .1 .0 .0 in
-      let some = s .pre .1 .1 .0 in
-      let r = w .ready in
-      omega arith
-
   node-branch-requires : node-lts.Need-branch-requires node-calls node-at node.Post
   node-branch-requires c κs =
-      let s = c .before .before .before .before .before .before .before .before .before .before .before in
-      let w = s .pre .1 .0 .0 in
-      let lives = s .pre .1 .0 .1 in
-      let some = s .pre .1 .1 .0 in
-      let l = left-is (c .before .before .before) in
-      let own = ready-own (w .ready) some in (
-        omega (arith, s .pre .0, l .slots),
-        (child-walkable l (walkable-left w some), child-lives l (lives-nested (left-nested own _) lives), child-splits l (s .args .k) (next-is (c .before .before .before .before))),
-      )
-
-  node-cast-inside-live : node-lts.Need-cast-inside-live node-calls node-at node.Post
-  node-cast-inside-live c =
-      let r = c .before .before .before .before .before .before .before .before .before .before .before .before .before .before .args .run in
-      omega (arith, c .before .before .before .before .before .before .before .before .before .shared-slice-known2 .given (r .start + r .length / 2))
-
-  node-inside-live-requires : node-lts.Need-inside-live-requires node-calls node-at node.Post
-  node-inside-live-requires c κs =
       let s = c .before .before .before .before .before .before .before .before .before .before .before .before .before .before in
       let w = s .pre .1 .0 .0 in
       let lives = s .pre .1 .0 .1 in
       let some = s .pre .1 .1 .0 in
-      (w .faces, (own-point w some, lives .live))
+      let l = left-is (c .before .before) in
+      let own = ready-own (w .ready) some in (
+        omega (arith, s .pre .0, l .slots),
+        (child-walkable l (walkable-left w some), child-lives l (lives-nested (left-nested own _) lives), child-splits l (s .args .k) (next-is (c .before .before .before))),
+      )
 
-  node-place-requires : node-lts.Need-place-requires node-calls node-at node.Post
-  node-place-requires c κs =
-      let s = c .before .before .before .before .before .before .before .before .before .before .before .before .before .before .before .before in
+  node-place-requires-2 : node-lts.Need-place-requires-2 node-calls node-at node.Post
+  node-place-requires-2 c κs =
+      let s = c .before .before .before .before .before .before .before .before .before .before .before .before .before .before .before .before .before .before in
       let w = s .pre .1 .0 .0 in
       let some = s .pre .1 .1 .0 in
-      let l = left-is (c .before .before .before .before .before .before .before .before) in
-      let v = child-walked l (s .args .order .now) (c .before .before .before .before .branch .ensures) in
+      let l = left-is (c .before .before .before .before .before .before) in
+      let v = child-walked l (s .args .order .now) (c .before .before .before .branch .ensures) in
       let half = run-length (s .args .order .now) (s .args .run .start) (s .args .run .length / 2) (omega arith) in
       omega (arith, walked-numbers v, v .filled .size)
 
   node-branch-requires-2 : node-lts.Need-branch-requires-2 node-calls node-at node.Post
   node-branch-requires-2 c κs =
-      let s = c .before .before .before .before .before .before .before .before .before .before .before .before .before .before .before .before .before .before .before .before in
+      let s = c .before .before .before .before .before .before .before .before .before .before .before .before .before .before .before .before .before .before .before .before .before .before in
       let w = s .pre .1 .0 .0 in
       let lives = s .pre .1 .0 .1 in
       let some = s .pre .1 .1 .0 in
-      let l = left-is (c .before .before .before .before .before .before .before .before .before .before .before .before) in
-      let v = child-walked l (s .args .order .now) (c .before .before .before .before .before .before .before .before .branch .ensures) in
+      let l = left-is (c .before .before .before .before .before .before .before .before .before .before) in
+      let v = child-walked l (s .args .order .now) (c .before .before .before .before .before .before .before .branch .ensures) in
       let own = ready-own (w .ready) some in
-      let told = c .before .before .before .before .before .inside-live .ensures .tells lives own in
-      let f = rw (told, v .filled .size, w .ready .size) at (c .before .before .before .place .ensures) in
-      let r = right-is (c .before .before .before .before .before .before .before .before .before .before .before) in (
+      let told = c .before .before .before .before .before .before .before .before .before .before .before .before .before .before .before .before .inside-live .ensures .tells lives own in
+      let f = rw (told, v .filled .size, w .ready .size) at (c .before .before .before .place2 .ensures) in
+      let r = right-is (c .before .before .before .before .before .before .before .before .before) in (
         omega (arith, s .pre .0, r .slots),
-        (child-walkable r (walkable-right w some v f), child-lives r (lives-nested (right-nested own _) lives), child-splits r (s .args .k) (next-is (c .before .before .before .before .before .before .before .before .before .before .before .before .before))),
+        (child-walkable r (walkable-right w some v f), child-lives r (lives-nested (right-nested own _) lives), child-splits r (s .args .k) (next-is (c .before .before .before .before .before .before .before .before .before .before .before))),
       )
 
-  node-returns : node-lts.Need-returns node-calls node-at node.Post
-  node-returns c =
-      let s = c .before .before .before .before .before .before .before .before .before .before .before .before .before .before .before .before .before .before .before .before .before .before .before in
+  node-returns-2 : node-lts.Need-returns-2 node-calls node-at node.Post
+  node-returns-2 c =
+      let s = c .before .before .before .before .before .before .before .before .before .before .before .before .before .before .before .before .before .before .before .before .before .before .before .before .before in
       let w = s .pre .1 .0 .0 in
       let lives = s .pre .1 .0 .1 in
       let some = s .pre .1 .1 .0 in
-      let l = left-is (c .before .before .before .before .before .before .before .before .before .before .before .before .before .before .before) in
-      let v = child-walked l (s .args .order .now) (c .before .before .before .before .before .before .before .before .before .before .before .branch .ensures) in
+      let l = left-is (c .before .before .before .before .before .before .before .before .before .before .before .before .before) in
+      let v = child-walked l (s .args .order .now) (c .before .before .before .before .before .before .before .before .before .before .branch .ensures) in
       let own = ready-own (w .ready) some in
-      let told = c .before .before .before .before .before .before .before .before .inside-live .ensures .tells lives own in
-      let f = rw (told, v .filled .size, w .ready .size) at (c .before .before .before .before .before .before .place .ensures) in
-      let r = right-is (c .before .before .before .before .before .before .before .before .before .before .before .before .before .before) in
+      let told = c .before .before .before .before .before .before .before .before .before .before .before .before .before .before .before .before .before .before .before .inside-live .ensures .tells lives own in
+      let f = rw (told, v .filled .size, w .ready .size) at (c .before .before .before .before .before .before .place2 .ensures) in
+      let r = right-is (c .before .before .before .before .before .before .before .before .before .before .before .before) in
       walked-node (w .ready) some v f (s .pre .1 .1 .1) (child-walked r (s .args .order .now) (c .before .before .branch2 .ensures))
 
-  node-same-length : node-lts.Need-same-length node-calls node-at node.Post
-  node-same-length c = node-returns c .filled .size
+  node-same-length-2 : node-lts.Need-same-length-2 node-calls node-at node.Post
+  node-same-length-2 c = node-returns-2 c .filled .size
 
 pub +branch+node-spec : {M : Type 1} → statement M
 +branch+node-spec = close μ-branch μ-node
@@ -360,15 +379,18 @@ pub +branch+node-spec : {M : Type 1} → statement M
     (node-add-middle t)
     (node-mul-p t)
     (node-shared-slice-read-p t)
+    (node-cast-inside-live t)
+    (node-inside-live-requires t)
+    (node-add-start t)
+    (node-place-requires t)
+    (node-same-length t)
+    (node-returns t)
     (node-coordinate-requires t)
     (node-next-axis-requires t)
     (node-left-run-requires t)
     (node-right-run-requires t)
-    (node-add-start t)
     (node-branch-requires t)
-    (node-cast-inside-live t)
-    (node-inside-live-requires t)
-    (node-place-requires t)
+    (node-place-requires-2 t)
     (node-branch-requires-2 t)
-    (node-same-length t)
-    (node-returns t)
+    (node-same-length-2 t)
+    (node-returns-2 t)
