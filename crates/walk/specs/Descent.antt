@@ -1,9 +1,8 @@
 -- What the node part and the branch part ask of the lent numbers, and that it goes on to both branches of an open branch.
-use mathlib.Core.Path.{_≡_, sym, ap, _∙_}
+use mathlib.Core.Path.{_≡_, ap, _∙_}
 use mathlib.Core.List.{List}
 use Prim.Native.Nat.{ℕ, _+_, _-_, _/_, _%_, _<_}
-use native.Mathlib.Nat.{mod-lt, suc-mod}
-use native.Mathlib.Numerals.{add-one}
+use native.Mathlib.Nat.{mod-lt, mod-mod}
 use native.Mathlib.Omega.{arith}
 use lib.ListN.{length}
 use lib.IntN.{ℤ, pos, negsuc}
@@ -20,7 +19,7 @@ use Rattle.walk.specs.declared.descent.Run.{Run}
 use Rattle.walk.specs.Fill.{Placed}
 use Rattle.walk.specs.Slots.{runOf}
 use Rattle.walk.specs.Root.{Known}
-use Rattle.walk.specs.Walk.{Ready, Walked, ownOf, leftOf, rightOf, ready-left, ready-right}
+use Rattle.walk.specs.Walk.{Ready, Walked, ownOf, leftOf, rightOf, ready-left, ready-right, ready-depth, walked-depth}
 
 -- The region of all the lent faces.
 abbrev pub regionOf : ℕ → List ℤ → List ℤ → Region
@@ -34,26 +33,22 @@ pub record Walkable (k : ℕ) (points : List ℤ) (order : List ℕ) (normals of
   pub faces : Faces k (length offsets) normals offsets
   pub ranges : BoxRanges k b
 
--- A branch one deeper, from slot a on, with c slots, whose node splits on dimension s, with f live faces and box b.
-pub record Child (a c j s f : ℕ) (b : Box) (start size depth split count : ℕ) (box : Box) : Type 0 where
+-- A branch from slot a on, with c slots, whose node splits on dimension s, with f live faces and box b.
+pub record Child (a c s f : ℕ) (b : Box) (start size split count : ℕ) (box : Box) : Type 0 where
   pub starts : start ≡ a
   pub slots : size ≡ c
-  pub deeper : depth ≡ j + 1
   pub splits : split ≡ s
   pub faces : count ≡ f
   pub in-box : box ≡ b
 
 module _ {k : ℕ} {points : List ℤ} {order : List ℕ} {normals offsets : List ℤ} {a c j : ℕ} {b : Box} {list : List ℕ} {i o u : ℕ}
     (w : Walkable k points order normals offsets a c j b list i o u) (some : 0 < c) where
-  -- The node's number is that of a point, and the dimension of its split is one of the k.
+  -- The node's number is that of a point, whose coordinate on the dimension of the split is in its range.
   pub own-point : HasPoint k points (ownOf order a c)
   own-point = let r = w .ready in w .known .each (a + c / 2) (omega arith)
 
-  pub axis-below : j % k < k
+  axis-below : j % k < k
   axis-below = mod-lt j (w .some)
-
-  pub axis-small : j % k < 4
-  axis-small = omega (arith, axis-below, own-point .few)
 
   own-ranges : Between (negsuc 32767) (coord k points (ownOf order a c) (axis k j)) (pos 32767)
   own-ranges = own-point .ranges .ranges (axis k j) axis-below
@@ -83,30 +78,36 @@ module _ {k : ℕ} {points : List ℤ} {order : List ℕ} {normals offsets : Lis
     ranges = right-ranges (w .ranges) (axis k j) own-ranges;
   }
 
--- What a branch's own numbers ask and tell, said of the value that it is handed on as.
-module _ {a c j s f : ℕ} {b : Box} {start size depth split count : ℕ} {box : Box} (child : Child a c j s f b start size depth split count box) where
-  pub child-walkable : {k : ℕ} {points : List ℤ} {order : List ℕ} {normals offsets : List ℤ} {list : List ℕ} {i o u : ℕ}
-      → Walkable k points order normals offsets a c (j + 1) b list i o u → Walkable k points order normals offsets start size depth box list i o u
-  child-walkable w = rw (child .starts, child .slots, child .deeper, child .in-box) w
+-- What a branch's own numbers ask and tell, said of the value that it is handed on as, whose dimension stands for its depth.
+module _ (k j : ℕ) {a c f : ℕ} {b : Box} {start size split count : ℕ} {box : Box} (child : Child a c (axis k (j + 1)) f b start size split count box) where
+  as-deep : axis k split ≡ axis k (j + 1)
+  as-deep = ap (axis k) (child .splits) ∙ mod-mod (j + 1) k
+
+  pub child-splits : 0 < k → split < k
+  child-splits some = rw (child .splits) (mod-lt (j + 1) some)
 
   pub child-lives : {g : Region} {face : List ℕ} → Lives g b face f → Lives g box face count
   child-lives v = rw (child .in-box, child .faces) v
 
-  pub child-splits : (k : ℕ) → s ≡ axis k (axis k j + 1) → split ≡ axis k depth
-  child-splits k e = child .splits ∙ e ∙ ap (axis k) (add-one (axis k j)) ∙ sym (suc-mod j k) ∙ ap (axis k) (sym (add-one j) ∙ sym (child .deeper))
+  pub child-walkable : {points : List ℤ} {order : List ℕ} {normals offsets : List ℤ} {list : List ℕ} {i o u : ℕ}
+      → Walkable k points order normals offsets a c (j + 1) b list i o u → Walkable k points order normals offsets start size split box list i o u
+  child-walkable w =
+      rw
+      (child .starts, child .slots, child .in-box)
+      (record { ready = ready-depth as-deep (w .ready); known = w .known; some = w .some; faces = w .faces; ranges = w .ranges })
 
-  pub child-walked : (order : List ℕ) {g : Region} {at : ℕ → ℕ → ℤ} {n : ℕ} {list after : List ℕ} {i o u i' o' u' : ℕ}
-      → Walked g at depth (runOf order start size) box n list after i o u i' o' u' → Walked g at (j + 1) (runOf order a c) b n list after i o u i' o' u'
-  child-walked order w = rw (child .starts, child .slots, child .deeper, child .in-box) at w
+  pub child-walked : (order : List ℕ) {g : Region} {at : ℕ → ℕ → ℤ} {n : ℕ} {list after : List ℕ} {i o u i' o' u' : ℕ} → g .k ≡ k
+      → Walked g at split (runOf order start size) box n list after i o u i' o' u' → Walked g at (j + 1) (runOf order a c) b n list after i o u i' o' u'
+  child-walked order e w = walked-depth (rw e as-deep) (rw (child .starts, child .slots, child .in-box) at w)
 
 -- What both parts ask of the branch and what they do, read off the values that they take and give.
 abbrev pub BranchAsks : ℕ → List ℤ → List ℕ → List ℤ → List ℤ → Run → List ℕ → List ℕ → Tally → Type 0
 BranchAsks k points order normals offsets run live list tally =
-    Walkable k points order normals offsets (run .start) (run .length) (run .depth) (boxOf (run .rows)) list (tally .inside) (tally .outside) (tally .visits)
+    Walkable k points order normals offsets (run .start) (run .length) (run .axis) (boxOf (run .rows)) list (tally .inside) (tally .outside) (tally .visits)
     × Lives (regionOf k normals offsets) (boxOf (run .rows)) live (run .count)
-    × (run .axis ≡ axis k (run .depth))
+    × (run .axis < k)
 
 abbrev pub BranchDoes : ℕ → List ℤ → List ℕ → List ℤ → List ℤ → Run → List ℕ → List ℕ → Tally → Tally → Type 0
 BranchDoes k points order normals offsets run list after tally next =
-    Walked (regionOf k normals offsets) (coord k points) (run .depth) (runOf order (run .start) (run .length)) (boxOf (run .rows)) (length order)
+    Walked (regionOf k normals offsets) (coord k points) (run .axis) (runOf order (run .start) (run .length)) (boxOf (run .rows)) (length order)
     list after (tally .inside) (tally .outside) (tally .visits) (next .inside) (next .outside) (next .visits)

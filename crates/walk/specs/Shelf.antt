@@ -48,7 +48,6 @@ module _ {g : Region} {at : ℕ → ℕ → ℤ} {order : List ℕ} {b : Box} {l
         size = size;
         room = omega arith;
         seen = omega arith;
-        deep = omega arith;
       }
 
   -- The root's walk is the listing of the shelf.

@@ -19,6 +19,7 @@ use Rattle.terms.specs.Lists.{insides, outsides}
 use Rattle.theory.specs.Flags.{clash}
 use Rattle.theory.specs.AllAndAny.{OneBelow}
 use Rattle.theory.specs.Counting.{count-not}
+use Rattle.theory.specs.TreeDepth.{tree-depth, boxes-depth}
 use Rattle.theory.specs.RunParts.{Parts, parts, whole-run, left-length, right-length}
 use Rattle.theory.specs.Keeping.{keep-around}
 use Rattle.theory.specs.InsideAndOutside.{lists-length}
@@ -131,14 +132,30 @@ walked-open {g} {at} {j} (x ∷ xs) {b} {u = u} {u₃ = u₃} some e v f w = rec
           w .visits s (omega arith),
         )
 
--- What the walk of c slots of the order from slot a on asks: a branch at depth j with box b, and room for its numbers, its visits and its depth.
+-- What the walk of c slots of the order from slot a on asks: a branch at depth j with box b, and room for its numbers and its visits.
 pub record Ready (g : Region) (at : ℕ → ℕ → ℤ) (order : List ℕ) (a c j : ℕ) (b : Box) (list : List ℕ) (i o u : ℕ) : Type 0 where
   pub branch : Branch (g .k) at j (runOf order a c) b
   pub fits : a + c ≤ length order
   pub size : length list ≡ length order
   pub room : i + o + c ≤ length order
   pub seen : u + c ≤ length order
-  pub deep : j + c ≤ length order
+
+-- The depth counts only by the dimension that the node splits on.
+module _ {g : Region} {at : ℕ → ℕ → ℤ} {s j : ℕ} {b : Box} {list : List ℕ} {i o u : ℕ} (e : axis (g .k) s ≡ axis (g .k) j) where
+  pub ready-depth : {order : List ℕ} {a c : ℕ} → Ready g at order a c j b list i o u → Ready g at order a c s b list i o u
+  ready-depth r =
+      let t = r .branch in
+      record {
+        branch = record { fuel = t .fuel; tree = tree-depth (t .fuel) (g .k) at s j _ e ∙ t .tree; held = t .held };
+        fits = r .fits;
+        size = r .size;
+        room = r .room;
+        seen = r .seen;
+      }
+
+  pub walked-depth : {run : List ℕ} {n : ℕ} {after : List ℕ} {i' o' u' : ℕ} → Walked g at s run b n list after i o u i' o' u'
+      → Walked g at j run b n list after i o u i' o' u'
+  walked-depth {run = run} w = record { filled = w .filled; visits = λ f l. rw (← boxes-depth f (g .k) at s j run b e) (w .visits f l) }
 
 -- A settled run, as it was lent to a copier: wholly above all faces, or wholly below one.
 module _ {g : Region} {at : ℕ → ℕ → ℤ} {order : List ℕ} {a c j : ℕ} {b : Box} {list after : List ℕ} {i o u : ℕ}
@@ -186,7 +203,6 @@ module _ {g : Region} {at : ℕ → ℕ → ℤ} {order : List ℕ} {a c j : ℕ
     size = r .size;
     room = omega arith;
     seen = omega arith;
-    deep = omega arith;
   }
 
   module _ {first next : List ℕ} {i₁ o₁ u₁ i₂ o₂ u₂ : ℕ}
@@ -202,7 +218,6 @@ module _ {g : Region} {at : ℕ → ℕ → ℤ} {order : List ℕ} {a c j : ℕ
           size = f .filled .size ∙ v .filled .size ∙ r .size;
           room = omega (arith, walked-numbers v);
           seen = omega (arith, walked-visits v);
-          deep = omega arith;
         }
 
     -- The three together are the walk of the branch.

@@ -18,12 +18,11 @@ ghost use Rattle.terms.specs.Region.{isOpen};
 ghost use Rattle.walk.specs.Fill.{Placed};
 ghost use Rattle.walk.specs.Descent.{BranchAsks, BranchDoes, Child, regionOf};
 
-// A branch: where its run of slots starts and how long it is, its depth and the dimension on which its node splits, how many faces are live
-// for it, and its box.
+// A branch: where its run of slots starts and how long it is, the dimension on which its node splits, how many faces are live for it, and its
+// box.
 pub struct Run {
     pub start: usize,
     pub length: usize,
-    pub depth: usize,
     pub axis: usize,
     pub count: usize,
     pub rows: CornerRows,
@@ -32,16 +31,14 @@ pub struct Run {
 // The left branch of a branch whose node has the coordinate x on the dimension on which it splits; the branch's own node splits on the next.
 fn left_run(run: Run, x: i32, next: usize) -> Run
     requires { ⌜ run .axis < 4 ⌝ }
-    requires { ⌜ run .depth + 1 < 2 ^ 64 ⌝ }
-    ensures { λ r. ⌜ Child (run .start) (run .length / 2) (run .depth) next (run .count) (leftBox (boxOf (run .rows)) (run .axis) x)
-        (r .start) (r .length) (r .depth) (r .axis) (r .count) (boxOf (r .rows)) ⌝ }
+    ensures { λ r. ⌜ Child (run .start) (run .length / 2) next (run .count) (leftBox (boxOf (run .rows)) (run .axis) x)
+        (r .start) (r .length) (r .axis) (r .count) (boxOf (r .rows)) ⌝ }
 {
     let rows = run.rows;
     let left = left_box(rows, run.axis, x);
     Run {
         start: run.start,
         length: run.length / 2,
-        depth: run.depth + 1,
         axis: next,
         count: run.count,
         rows: left,
@@ -51,11 +48,10 @@ fn left_run(run: Run, x: i32, next: usize) -> Run
 // The right branch.
 fn right_run(run: Run, x: i32, next: usize) -> Run
     requires { ⌜ run .axis < 4 ⌝ }
-    requires { ⌜ run .depth + 1 < 2 ^ 64 ⌝ }
     requires { ⌜ 0 < run .length ⌝ }
     requires { ⌜ run .start + run .length < 2 ^ 64 ⌝ }
-    ensures { λ r. ⌜ Child (run .start + run .length / 2 + 1) (run .length - run .length / 2 - 1) (run .depth) next (run .count) (rightBox (boxOf (run .rows)) (run .axis) x)
-        (r .start) (r .length) (r .depth) (r .axis) (r .count) (boxOf (r .rows)) ⌝ }
+    ensures { λ r. ⌜ Child (run .start + run .length / 2 + 1) (run .length - run .length / 2 - 1) next (run .count) (rightBox (boxOf (run .rows)) (run .axis) x)
+        (r .start) (r .length) (r .axis) (r .count) (boxOf (r .rows)) ⌝ }
 {
     let rows = run.rows;
     let right = right_box(rows, run.axis, x);
@@ -63,7 +59,6 @@ fn right_run(run: Run, x: i32, next: usize) -> Run
     Run {
         start: run.start + half + 1,
         length: run.length - half - 1,
-        depth: run.depth + 1,
         axis: next,
         count: run.count,
         rows: right,

@@ -55,7 +55,6 @@ pub fn walk(
     let root = Run {
         start: 0,
         length: slots,
-        depth: 0,
         axis: 0,
         count: h,
         rows: rows,

@@ -1,6 +1,5 @@
 -- An empty shelf is listed by nothing. Of any other the root is a branch that can be walked, and its walk is the listing of the shelf.
-use mathlib.Core.Path.{refl, sym}
-use native.Mathlib.Nat.{mod-eq-of-lt}
+use mathlib.Core.Path.{refl}
 use Prim.Native.Nat.{_<_}
 use native.Mathlib.Omega.{arith}
 use borrow.Author.Needs.{needs}
@@ -42,7 +41,7 @@ branch-requires c κs =
     let some : 0 < length (s .args .order .now) = omega arith in (
       walkable-root (p .0) (p .1 .0) (p .1 .1 .0) (p .1 .1 .1) some (root (c .before .before .before)),
       c .before .before .all-faces .ensures .lives _ _ refl,
-      sym (mod-eq-of-lt (p .0 .some)),
+      p .0 .some,
     )
 
 same-length : tie.Need-same-length

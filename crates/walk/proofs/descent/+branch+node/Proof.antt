@@ -2,6 +2,7 @@
 -- A branch that is judged settled goes to a copier; an open one to its node, whose two branches' boxes and live faces nest in its own.
 use mathlib.Core.Path.{_≡_, refl}
 use Prim.Native.Nat.{ℕ, _<_, _+_, _-_, _/_}
+use native.Mathlib.Nat.{mod-eq-of-lt}
 use native.Mathlib.Omega.{arith}
 use borrow.Author.Needs.{sfits-of}
 use mir.Syntax.{w32}
@@ -14,7 +15,7 @@ use Rattle.region.specs.Live.{lives-nested}
 use Rattle.region.specs.Judged.{judged-above, judged-open}
 use Rattle.walk.specs.Slots.{lent-length, run-length}
 use Rattle.walk.specs.Walk.{ownOf, ready-own, walked-empty, walked-inside, walked-outside, walked-node, walked-alone, walked-numbers}
-use Rattle.walk.specs.Descent.{own-point, axis-below, axis-small, walkable-left, walkable-right}
+use Rattle.walk.specs.Descent.{own-point, walkable-left, walkable-right}
 use Rattle.walk.specs.Descent.{Child, child-walkable, child-lives, child-splits, child-walked}
 use borrow.Fn.Kinds.{In}
 use borrow.Fn.PlainCycle.{Measures, is, falls, and}
@@ -182,12 +183,9 @@ module _ (t : ℕ) where
   branch-returns-4 : branch-lts.Need-returns-4 branch-calls branch-at branch.Post
   branch-returns-4 c = c .before .before .node .ensures
 
-  -- The dimension on which the node splits is one of the k.
-  splits-below : (c : node-lts.Start node-calls node-at node.Post) → c .args .run .axis < c .args .k
-  splits-below c = rw (c .pre .1 .0 .2) (axis-below (c .pre .1 .0 .0) (c .pre .1 .1 .0))
-
+  -- The dimension on which the node splits is one of four.
   splits-small : (c : node-lts.Start node-calls node-at node.Post) → c .args .run .axis < 4
-  splits-small c = rw (c .pre .1 .0 .2) (axis-small (c .pre .1 .0 .0) (c .pre .1 .1 .0))
+  splits-small c = omega (arith, c .pre .1 .0 .2, own-point (c .pre .1 .0 .0) (c .pre .1 .1 .0) .few)
 
   -- The two branches that the node part goes on to.
   left-is : (c : node-lts.After-left-run node-calls node-at node.Post) →
@@ -195,29 +193,24 @@ module _ (t : ℕ) where
       let r = a .run in
       let p = ownOf (a .order .now) (r .start) (r .length) in
       let child = c .left-run .result in
-      Child (r .start) (r .length / 2) (r .depth) (c .before .next-axis .result) (r .count)
-      (leftBox (boxOf (r .rows)) (axis (a .k) (r .depth)) (coord (a .k) (a .points .now) p (axis (a .k) (r .depth))))
-      (child .start) (child .length) (child .depth) (child .axis) (child .count) (boxOf (child .rows))
+      Child (r .start) (r .length / 2) (axis (a .k) (r .axis + 1)) (r .count)
+      (leftBox (boxOf (r .rows)) (axis (a .k) (r .axis)) (coord (a .k) (a .points .now) p (axis (a .k) (r .axis))))
+      (child .start) (child .length) (child .axis) (child .count) (boxOf (child .rows))
   left-is c =
       let x = c .before .before .coordinate in
-      rw (toZ-ofZ {w = w32} (sfits-of (x .ok)), x .ensures, c .before .before .before .before .before .before .before .before .before .before .before .before .pre .1 .0 .2) at (c .left-run .ensures)
+      rw (mod-eq-of-lt (c .before .before .before .before .before .before .before .before .before .before .before .before .pre .1 .0 .2)) (rw (toZ-ofZ {w = w32} (sfits-of (x .ok)), x .ensures, c .before .next-axis .ensures) at (c .left-run .ensures))
 
   right-is : (c : node-lts.After-right-run node-calls node-at node.Post) →
       let a = c .before .before .before .before .before .before .before .before .before .before .before .before .before .args in
       let r = a .run in
       let p = ownOf (a .order .now) (r .start) (r .length) in
       let child = c .right-run .result in
-      Child (r .start + r .length / 2 + 1) (r .length - r .length / 2 - 1) (r .depth) (c .before .before .next-axis .result) (r .count)
-      (rightBox (boxOf (r .rows)) (axis (a .k) (r .depth)) (coord (a .k) (a .points .now) p (axis (a .k) (r .depth))))
-      (child .start) (child .length) (child .depth) (child .axis) (child .count) (boxOf (child .rows))
+      Child (r .start + r .length / 2 + 1) (r .length - r .length / 2 - 1) (axis (a .k) (r .axis + 1)) (r .count)
+      (rightBox (boxOf (r .rows)) (axis (a .k) (r .axis)) (coord (a .k) (a .points .now) p (axis (a .k) (r .axis))))
+      (child .start) (child .length) (child .axis) (child .count) (boxOf (child .rows))
   right-is c =
       let x = c .before .before .before .coordinate in
-      rw (toZ-ofZ {w = w32} (sfits-of (x .ok)), x .ensures, c .before .before .before .before .before .before .before .before .before .before .before .before .before .pre .1 .0 .2) at (c .right-run .ensures)
-
-  -- The dimension that they split on.
-  next-is : (c : node-lts.After-next-axis node-calls node-at node.Post) → let a = c .before .before .before .before .before .before .before .before .before .before .before .args in
-      c .next-axis .result ≡ axis (a .k) (axis (a .k) (a .run .depth) + 1)
-  next-is c = rw (c .before .before .before .before .before .before .before .before .before .before .before .pre .1 .0 .2) at (c .next-axis .ensures)
+      rw (mod-eq-of-lt (c .before .before .before .before .before .before .before .before .before .before .before .before .before .pre .1 .0 .2)) (rw (toZ-ofZ {w = w32} (sfits-of (x .ok)), x .ensures, c .before .before .next-axis .ensures) at (c .right-run .ensures))
 
   node-add-middle : node-lts.Need-add-middle node-calls node-at node.Post
   node-add-middle c = omega arith
@@ -273,10 +266,10 @@ module _ (t : ℕ) where
       let s = c .before .before .before .before .before .before .before .before .before in
       let w = s .pre .1 .0 .0 in
       let some = s .pre .1 .1 .0 in
-      (own-point w some, splits-below s)
+      (own-point w some, s .pre .1 .0 .2)
 
   node-next-axis-requires : node-lts.Need-next-axis-requires node-calls node-at node.Post
-  node-next-axis-requires c κs = splits-below (c .before .before .before .before .before .before .before .before .before .before)
+  node-next-axis-requires c κs = c .before .before .before .before .before .before .before .before .before .before .pre .1 .0 .2
 
   node-left-run-requires : node-lts.Need-left-run-requires node-calls node-at node.Post
   node-left-run-requires c κs =
@@ -284,7 +277,7 @@ module _ (t : ℕ) where
       let w = s .pre .1 .0 .0 in
       let some = s .pre .1 .1 .0 in
       let r = w .ready in
-      (splits-small s, omega arith)
+      splits-small s
 
   node-right-run-requires : node-lts.Need-right-run-requires node-calls node-at node.Post
   node-right-run-requires c κs =
@@ -292,59 +285,67 @@ module _ (t : ℕ) where
       let w = s .pre .1 .0 .0 in
       let some = s .pre .1 .1 .0 in
       let r = w .ready in
-      (splits-small s, (omega arith, (some, omega arith)))
+      (splits-small s, (some, omega arith))
 
   node-branch-requires : node-lts.Need-branch-requires node-calls node-at node.Post
   node-branch-requires c κs =
       let s = c .before .before .before .before .before .before .before .before .before .before .before .before .before .before in
+      let k = s .args .k in
+      let j = s .args .run .axis in
       let w = s .pre .1 .0 .0 in
       let lives = s .pre .1 .0 .1 in
       let some = s .pre .1 .1 .0 in
       let l = left-is (c .before .before) in
       let own = ready-own (w .ready) some in (
         omega (arith, s .pre .0, l .slots),
-        (child-walkable l (walkable-left w some), child-lives l (lives-nested (left-nested own _) lives), child-splits l (s .args .k) (next-is (c .before .before .before))),
+        (child-walkable k j l (walkable-left w some), child-lives k j l (lives-nested (left-nested own _) lives), child-splits k j l (w .some)),
       )
 
   node-place-requires-2 : node-lts.Need-place-requires-2 node-calls node-at node.Post
   node-place-requires-2 c κs =
       let s = c .before .before .before .before .before .before .before .before .before .before .before .before .before .before .before .before .before .before in
+      let k = s .args .k in
+      let j = s .args .run .axis in
       let w = s .pre .1 .0 .0 in
       let some = s .pre .1 .1 .0 in
       let l = left-is (c .before .before .before .before .before .before) in
-      let v = child-walked l (s .args .order .now) (c .before .before .before .branch .ensures) in
+      let v = child-walked k j l (s .args .order .now) refl (c .before .before .before .branch .ensures) in
       let half = run-length (s .args .order .now) (s .args .run .start) (s .args .run .length / 2) (omega arith) in
       omega (arith, walked-numbers v, v .filled .size)
 
   node-branch-requires-2 : node-lts.Need-branch-requires-2 node-calls node-at node.Post
   node-branch-requires-2 c κs =
       let s = c .before .before .before .before .before .before .before .before .before .before .before .before .before .before .before .before .before .before .before .before .before .before in
+      let k = s .args .k in
+      let j = s .args .run .axis in
       let w = s .pre .1 .0 .0 in
       let lives = s .pre .1 .0 .1 in
       let some = s .pre .1 .1 .0 in
       let l = left-is (c .before .before .before .before .before .before .before .before .before .before) in
-      let v = child-walked l (s .args .order .now) (c .before .before .before .before .before .before .before .branch .ensures) in
+      let v = child-walked k j l (s .args .order .now) refl (c .before .before .before .before .before .before .before .branch .ensures) in
       let own = ready-own (w .ready) some in
       let told = c .before .before .before .before .before .before .before .before .before .before .before .before .before .before .before .before .inside-live .ensures .tells lives own in
       let f = rw (told, v .filled .size, w .ready .size) at (c .before .before .before .place2 .ensures) in
       let r = right-is (c .before .before .before .before .before .before .before .before .before) in (
         omega (arith, s .pre .0, r .slots),
-        (child-walkable r (walkable-right w some v f), child-lives r (lives-nested (right-nested own _) lives), child-splits r (s .args .k) (next-is (c .before .before .before .before .before .before .before .before .before .before .before))),
+        (child-walkable k j r (walkable-right w some v f), child-lives k j r (lives-nested (right-nested own _) lives), child-splits k j r (w .some)),
       )
 
   node-returns-2 : node-lts.Need-returns-2 node-calls node-at node.Post
   node-returns-2 c =
       let s = c .before .before .before .before .before .before .before .before .before .before .before .before .before .before .before .before .before .before .before .before .before .before .before .before .before in
+      let k = s .args .k in
+      let j = s .args .run .axis in
       let w = s .pre .1 .0 .0 in
       let lives = s .pre .1 .0 .1 in
       let some = s .pre .1 .1 .0 in
       let l = left-is (c .before .before .before .before .before .before .before .before .before .before .before .before .before) in
-      let v = child-walked l (s .args .order .now) (c .before .before .before .before .before .before .before .before .before .before .branch .ensures) in
+      let v = child-walked k j l (s .args .order .now) refl (c .before .before .before .before .before .before .before .before .before .before .branch .ensures) in
       let own = ready-own (w .ready) some in
       let told = c .before .before .before .before .before .before .before .before .before .before .before .before .before .before .before .before .before .before .before .inside-live .ensures .tells lives own in
       let f = rw (told, v .filled .size, w .ready .size) at (c .before .before .before .before .before .before .place2 .ensures) in
       let r = right-is (c .before .before .before .before .before .before .before .before .before .before .before .before) in
-      walked-node (w .ready) some v f (s .pre .1 .1 .1) (child-walked r (s .args .order .now) (c .before .before .branch2 .ensures))
+      walked-node (w .ready) some v f (s .pre .1 .1 .1) (child-walked k j r (s .args .order .now) refl (c .before .before .branch2 .ensures))
 
   node-same-length-2 : node-lts.Need-same-length-2 node-calls node-at node.Post
   node-same-length-2 c = node-returns-2 c .filled .size

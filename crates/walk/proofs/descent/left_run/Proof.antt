@@ -8,13 +8,10 @@ use Rattle.walk.proofs.descent.left_run.Tie as tie
 left-box-requires : tie.Need-left-box-requires
 left-box-requires c κs = search needs
 
-add-t7 : tie.Need-add-t7
-add-t7 c = search needs
-
 returns : tie.Need-returns
 returns c =
-    let x = toZ-ofZ (c .before .before .before .before .fits .x) in
-    record { starts = refl; slots = refl; deeper = refl; splits = refl; faces = refl; in-box = rw x at (c .before .before .left-box .ensures) }
+    let x = toZ-ofZ (c .before .before .before .fits .x) in
+    record { starts = refl; slots = refl; splits = refl; faces = refl; in-box = rw x at (c .before .left-box .ensures) }
 
 pub left-run-spec : {M : Type 1} → statement M
-left-run-spec = tie.close (tie.spec left-box-requires add-t7 returns)
+left-run-spec = tie.close (tie.spec left-box-requires returns)

@@ -20,14 +20,11 @@ sub-t9 c = search needs
 sub-t10 : tie.Need-sub-t10
 sub-t10 c = search needs
 
-add-t11 : tie.Need-add-t11
-add-t11 c = search needs
-
 returns : tie.Need-returns
 returns c =
-    let x = toZ-ofZ (c .before .before .before .before .before .before .fits .x) in
-    record { starts = refl; slots = refl; deeper = refl; splits = refl; faces = refl; in-box = rw x at (c .before .before .before .before .right-box .ensures) }
+    let x = toZ-ofZ (c .before .before .before .before .before .fits .x) in
+    record { starts = refl; slots = refl; splits = refl; faces = refl; in-box = rw x at (c .before .before .before .right-box .ensures) }
 
 pub right-run-spec : {M : Type 1} → statement M
 right-run-spec =
-    tie.close (tie.spec right-box-requires add-t7 add-t8 sub-t9 sub-t10 add-t11 returns)
+    tie.close (tie.spec right-box-requires add-t7 add-t8 sub-t9 sub-t10 returns)
