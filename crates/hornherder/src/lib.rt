@@ -78,7 +78,7 @@ pub extern "C" fn hornherder_list(
     Listing {
         code: 0,
         inside: tally.inside as u32,
-        outside: tally.outside as u32,
+        outside: (n - tally.inside) as u32,
         visits: tally.visits as u32,
     }
 }

@@ -1,7 +1,7 @@
 -- What the node part and the branch part ask of the lent numbers, and that it goes on to both branches of an open branch.
 use mathlib.Core.Path.{_≡_, ap, _∙_}
 use mathlib.Core.List.{List}
-use Prim.Native.Nat.{ℕ, _+_, _-_, _/_, _%_, _<_}
+use Prim.Native.Nat.{ℕ, _+_, _-_, _/_, _%_, _≤_, _<_}
 use native.Mathlib.Nat.{mod-lt, mod-mod}
 use native.Mathlib.Omega.{arith}
 use lib.ListN.{length}
@@ -100,14 +100,16 @@ module _ (k j : ℕ) {a c f : ℕ} {b : Box} {start size split count : ℕ} {box
       → Walked g at split (runOf order start size) box n list after i o u i' o' u' → Walked g at (j + 1) (runOf order a c) b n list after i o u i' o' u'
   child-walked order e w = walked-depth (rw e as-deep) (rw (child .starts, child .slots, child .in-box) at w)
 
--- What both parts ask of the branch and what they do, read off the values that they take and give.
+-- What both parts ask of the branch and what they do, read off the values that they take and give. Of the slots up to the branch, those not
+-- inside are outside.
 abbrev pub BranchAsks : ℕ → List ℤ → List ℕ → List ℤ → List ℤ → Run → List ℕ → List ℕ → Tally → Type 0
 BranchAsks k points order normals offsets run live list tally =
-    Walkable k points order normals offsets (run .start) (run .length) (run .axis) (boxOf (run .rows)) list (tally .inside) (tally .outside) (tally .visits)
+    Walkable k points order normals offsets (run .start) (run .length) (run .axis) (boxOf (run .rows)) list (tally .inside) (run .start - tally .inside) (tally .visits)
     × Lives (regionOf k normals offsets) (boxOf (run .rows)) live (run .count)
     × (run .axis < k)
+    × (tally .inside ≤ run .start)
 
 abbrev pub BranchDoes : ℕ → List ℤ → List ℕ → List ℤ → List ℤ → Run → List ℕ → List ℕ → Tally → Tally → Type 0
 BranchDoes k points order normals offsets run list after tally next =
     Walked (regionOf k normals offsets) (coord k points) (run .axis) (runOf order (run .start) (run .length)) (boxOf (run .rows)) (length order)
-    list after (tally .inside) (tally .outside) (tally .visits) (next .inside) (next .outside) (next .visits)
+    list after (tally .inside) (run .start - tally .inside) (tally .visits) (next .inside) (run .start + run .length - next .inside) (next .visits)

@@ -186,6 +186,10 @@ own-one : (t : Bool) (p : ℕ) → length (pick t p []) + length (pick (not t) p
 own-one true p = refl
 own-one false p = refl
 
+-- The list of those inside grows by one number at most.
+pub placed-most : {n : ℕ} {list after : List ℕ} {p : ℕ} {t : Bool} {i o u i' o' u' : ℕ} → Placed n list after p t i o u i' o' u' → i' ≤ i + 1
+placed-most {p = p} {t} f = omega (arith, f .filled .insides, own-one t p)
+
 module _ {g : Region} {at : ℕ → ℕ → ℤ} {order : List ℕ} {a c j : ℕ} {b : Box} {list : List ℕ} {i o u : ℕ}
     (r : Ready g at order a c j b list i o u) (some : 0 < c) where
   -- What the branch has at its node and below.

@@ -11,7 +11,7 @@ use terms::CornerRows;
 use terms::axis::next_axis;
 ghost use mathlib.Core.Path.{_≡_};
 ghost use mathlib.Core.Bool.{true};
-ghost use Prim.Native.Nat.{_+_, _-_, _/_, _^_, _<_};
+ghost use Prim.Native.Nat.{_+_, _-_, _/_, _^_, _≤_, _<_};
 ghost use lib.ListN.{length};
 ghost use Rattle.terms.specs.Box.{boxOf, leftBox, rightBox};
 ghost use Rattle.terms.specs.Region.{isOpen};
@@ -90,14 +90,13 @@ pub fn branch(
     let mut next = [0u8; 32];
     let judged = judge(k, h, normals, offsets, run.rows, live, run.count, &mut next);
     let e = a + c;
-    let mut settled = tally;
     if judged.below {
-        let end = list.len() - tally.outside;
+        let end = list.len() - (a - tally.inside);
         copy_outside(&order[a..e], list, end);
-        settled.outside += c;
-        return settled;
+        return tally;
     }
     if judged.left == 0 {
+        let mut settled = tally;
         copy_inside(&order[a..e], list, tally.inside);
         settled.inside += c;
         return settled;
@@ -132,22 +131,23 @@ fn node(
     let mut start = tally;
     start.visits += 1;
     if run.length == 1 {
-        return place(inside, p, list, start);
+        return place(inside, p, list, middle, start);
     }
     let x = coordinate(k, points, p, run.axis);
     let next = next_axis(k, run.axis);
     let left = left_run(run, x, next);
     let right = right_run(run, x, next);
     let first = branch(k, points, order, normals, offsets, left, live, list, start);
-    let own = place(inside, p, list, first);
+    let own = place(inside, p, list, middle, first);
     branch(k, points, order, normals, offsets, right, live, list, own)
 }
 
-// Writes one number to the list that its test says.
-fn place(inside: bool, p: u32, list: &mut [u32], tally: Tally) -> Tally
-    requires { ⌜ tally .inside + tally .outside < length (now list) ⌝ }
+// Writes one number to the list that its test says, after those of so many slots.
+fn place(inside: bool, p: u32, list: &mut [u32], done: usize, tally: Tally) -> Tally
+    requires { ⌜ tally .inside ≤ done ⌝ }
+    requires { ⌜ done < length (now list) ⌝ }
     ensures { λ r. ⌜ Placed (length (now (list .entry))) (now (list .entry)) (now (list .exit)) p inside
-        (tally .inside) (tally .outside) (tally .visits) (r .inside) (r .outside) (r .visits) ⌝ }
+        (tally .inside) (done - tally .inside) (tally .visits) (r .inside) (done + 1 - r .inside) (r .visits) ⌝ }
 {
     let mut next = tally;
     if inside {
@@ -156,8 +156,7 @@ fn place(inside: bool, p: u32, list: &mut [u32], tally: Tally) -> Tally
         next.inside += 1;
         return next;
     }
-    let at = list.len() - tally.outside - 1;
+    let at = list.len() - (done - tally.inside) - 1;
     list[at] = p;
-    next.outside += 1;
     next
 }

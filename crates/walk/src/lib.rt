@@ -10,6 +10,7 @@ use region::live::all_faces;
 use root::root_box;
 ghost use mathlib.Core.Path.{_≡_};
 ghost use mathlib.Core.Bool.{true};
+ghost use Prim.Native.Nat.{_-_};
 ghost use lib.ListN.{length};
 ghost use Rattle.terms.specs.Points.{coord, below};
 ghost use Rattle.terms.specs.Tree.{isTree};
@@ -17,10 +18,9 @@ ghost use Rattle.terms.specs.Region.{region};
 ghost use Rattle.theory.specs.Tested.{TestedPoints, TestedFaces};
 ghost use Rattle.walk.specs.Shelf.{Listed};
 
-// How many numbers the list holds in front and behind, and how many nodes were visited.
+// How many numbers the list holds in front, and how many nodes were visited. The other numbers of the slots walked so far stand behind.
 pub struct Tally {
     pub inside: usize,
-    pub outside: usize,
     pub visits: usize,
 }
 
@@ -39,11 +39,10 @@ pub fn walk(
     requires { ⌜ length (now list) ≡ length (now order) ⌝ }
     requires { ⌜ isTree k (coord k (now points)) (below m) m (now order) ≡ true ⌝ }
     ensures { λ r. ⌜ Listed (region k (length (now (offsets .entry))) (now (normals .entry)) (now (offsets .entry))) (coord k (now (points .entry)))
-        (now (order .entry)) (now (list .exit)) (r .inside) (r .outside) (r .visits) ⌝ }
+        (now (order .entry)) (now (list .exit)) (r .inside) (length (now (order .entry)) - r .inside) (r .visits) ⌝ }
 {
     let none = Tally {
         inside: 0,
-        outside: 0,
         visits: 0,
     };
     let slots = order.len();

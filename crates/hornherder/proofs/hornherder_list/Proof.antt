@@ -1,7 +1,8 @@
 -- A refusal leaves the list; where all was passed, the walk fills the first n places and counts, and no count is over n.
 use mathlib.Core.Path.{_≡_, sym, _∙_}
-use Prim.Native.Nat.{_-_}
+use Prim.Native.Nat.{_-_, _≤_}
 use native.Mathlib.Omega.{arith}
+use lib.ListN.{length, take}
 use lib.Seq.{length-take-le}
 use borrow.Author.Needs.{needs}
 use Rattle.theory.specs.RefusalsPassed.{ListPassed, list-passed}
@@ -18,16 +19,15 @@ passed c = list-passed _ _ _ _ _ _ _ _ (sym (list-coded _ _ _ _ _ _ _ _ (c .befo
 whole : (c : tie.Else1) → let n = c .before .before .before .before .args .n in n - 0 ≡ n
 whole c = omega arith
 
+slots : (c : tie.Else1) → let a = c .before .before .before .before .args in length (take (a .n) (a .order .now)) ≡ a .n
+slots c = length-take-le _ _ (passed c .room)
+
 -- No count is over n, which fits.
-few : (c : tie.After-walk) → let t = c .walk .result in AtMost 65535 (t .inside) (t .outside) (t .visits)
+few : (c : tie.After-walk) → let a = c .before .before .before .before .before .before .before .args in let t = c .walk .result in
+    AtMost (a .n) (t .inside) (a .n - t .inside) (t .visits) × (a .n ≤ 65535)
 few c =
     let e = c .before .before .before in
-    let p = passed e in
-    let most = counts-at-most (rw (whole e) at (c .walk .ensures)) in
-    let a = e .before .before .before .before .args in
-    let slots = length-take-le (a .n) (a .order .now) (p .room) in
-    let many = p .tested .many in
-    record { inside = omega arith; outside = omega arith; visited = omega arith }
+    (rw (slots e) at (counts-at-most (rw (whole e) at (c .walk .ensures))), passed e .tested .many)
 
 list-refusal-requires : tie.Need-list-refusal-requires
 list-refusal-requires c κs = search needs
@@ -62,13 +62,16 @@ walk-requires c κs =
     )
 
 cast-t19 : tie.Need-cast-t19
-cast-t19 c = omega (arith, few (c .before .before .before) .inside)
+cast-t19 c = let w = few (c .before .before .before) in omega (arith, w .0 .inside, w .1)
+
+sub-t14 : tie.Need-sub-t14
+sub-t14 c = let w = few (c .before .before .before .before) in omega (arith, w .0 .inside)
 
 cast-t20 : tie.Need-cast-t20
-cast-t20 c = omega (arith, few (c .before .before .before .before) .outside)
+cast-t20 c = let w = few (c .before .before .before .before) in omega (arith, w .0 .outside, w .1)
 
 cast-t21 : tie.Need-cast-t21
-cast-t21 c = omega (arith, few (c .before .before .before .before .before) .visited)
+cast-t21 c = let w = few (c .before .before .before .before .before) in omega (arith, w .0 .visited, w .1)
 
 same-length : tie.Need-same-length
 same-length c = search needs
@@ -77,7 +80,7 @@ returns-2 : tie.Need-returns-2
 returns-2 c =
     let w = c .before .before .before .before .before in
     let e = w .before .before .before in
-    list-done _ _ _ _ _ _ _ _ (e .before .list-refusal .ensures) (e .if1 .left) _ _ _ _ (rw (whole e, passed e .faced .offsets-size) at (w .walk .ensures))
+    list-done _ _ _ _ _ _ _ _ (e .before .list-refusal .ensures) (e .if1 .left) _ _ _ _ (rw (whole e, passed e .faced .offsets-size, slots e) at (w .walk .ensures))
 
 pub hornherder-list-spec : {M : Type 1} → statement M
 hornherder-list-spec =
@@ -92,6 +95,7 @@ hornherder-list-spec =
     slice-aggregate-walk
     walk-requires
     cast-t19
+    sub-t14
     cast-t20
     cast-t21
     same-length

@@ -1,6 +1,6 @@
 -- An empty shelf is listed by nothing. Of any other the root is a branch that can be walked, and its walk is the listing of the shelf.
-use mathlib.Core.Path.{refl}
-use Prim.Native.Nat.{_<_}
+use mathlib.Core.Path.{_≡_, refl}
+use Prim.Native.Nat.{_+_, _-_, _<_}
 use native.Mathlib.Omega.{arith}
 use borrow.Author.Needs.{needs}
 use lib.ListN.{length}
@@ -12,7 +12,10 @@ use Rattle.walk.proofs.walk.Statement.{statement}
 use Rattle.walk.proofs.walk.Tie as tie
 
 returns : tie.Need-returns
-returns c = listed-empty _ _ _ _ (c .if1 .taken) (c .before .before .before .pre .1 .1 .0)
+returns c =
+    let s = c .before .before .before in
+    let none : length (s .args .order .now) - 0 ≡ 0 = omega (arith, c .if1 .taken) in
+    rw none (listed-empty _ _ _ _ (c .if1 .taken) (s .pre .1 .1 .0))
 
 -- The root's rows are those of the slots.
 root : (c : tie.After-root-box) → let a = c .before .before .before .before .args in
@@ -42,6 +45,7 @@ branch-requires c κs =
       walkable-root (p .0) (p .1 .0) (p .1 .1 .0) (p .1 .1 .1) some (root (c .before .before .before)),
       c .before .before .all-faces .ensures .lives _ _ refl,
       p .0 .some,
+      omega arith,
     )
 
 same-length : tie.Need-same-length
@@ -50,7 +54,10 @@ same-length c = search needs
 returns-2 : tie.Need-returns-2
 returns-2 c =
     let s = c .before .before .before .before .before .before .before .before .before .before in
-    listed (root (c .before .before .before .before .before .before)) (s .pre .1 .1 .0) (c .before .before .branch .ensures)
+    let n = length (s .args .order .now) in
+    let i = c .before .before .branch .result .inside in
+    let all : n - i ≡ 0 + n - i = omega arith in
+    rw all (listed (root (c .before .before .before .before .before .before)) (s .pre .1 .1 .0) (c .before .before .branch .ensures))
 
 pub walk-spec : {M : Type 1} → statement M
 walk-spec =

@@ -14,7 +14,7 @@ use Rattle.theory.specs.BoxLaws.{left-nested, right-nested}
 use Rattle.region.specs.Live.{lives-nested}
 use Rattle.region.specs.Judged.{judged-above, judged-open}
 use Rattle.walk.specs.Slots.{lent-length, run-length}
-use Rattle.walk.specs.Walk.{ownOf, ready-own, walked-empty, walked-inside, walked-outside, walked-node, walked-alone, walked-numbers}
+use Rattle.walk.specs.Walk.{ownOf, ready-own, walked-empty, walked-inside, walked-outside, walked-node, walked-alone, walked-numbers, placed-most}
 use Rattle.walk.specs.Descent.{own-point, walkable-left, walkable-right}
 use Rattle.walk.specs.Descent.{Child, child-walkable, child-lives, child-splits, child-walked}
 use borrow.Fn.Kinds.{In}
@@ -89,7 +89,10 @@ module _ (t : ℕ) where
   )
 
   branch-returns : branch-lts.Need-returns branch-calls branch-at branch.Post
-  branch-returns c = rw (c .if1 .taken) (walked-empty _ _ _ _ _ _ _ _ _)
+  branch-returns c =
+      let a = c .before .before .before .args in
+      let none : a .run .start + 0 - a .tally .inside ≡ a .run .start - a .tally .inside = omega arith in
+      rw (c .if1 .taken, none) (walked-empty _ _ _ _ _ _ _ _ _)
 
   branch-judge-requires : branch-lts.Need-judge-requires branch-calls branch-at branch.Post
   branch-judge-requires c κs =
@@ -101,6 +104,9 @@ module _ (t : ℕ) where
 
   branch-sub-end : branch-lts.Need-sub-end branch-calls branch-at branch.Post
   branch-sub-end c = omega arith
+
+  branch-sub-end-2 : branch-lts.Need-sub-end-2 branch-calls branch-at branch.Post
+  branch-sub-end-2 c = omega arith
 
   branch-mul-copy-outside : branch-lts.Need-mul-copy-outside branch-calls branch-at branch.Post
   branch-mul-copy-outside c = omega arith
@@ -121,14 +127,15 @@ module _ (t : ℕ) where
       let l = lent-length (s .args .order .now) (s .args .run .start) (s .args .run .length) (r .fits) in
       omega (arith, r .room, r .size)
 
-  branch-add-settled : branch-lts.Need-add-settled branch-calls branch-at branch.Post
-  branch-add-settled c = omega arith
-
   branch-returns-2 : branch-lts.Need-returns-2 branch-calls branch-at branch.Post
   branch-returns-2 c =
-      let j = c .before .before .before .before .before .before .before .before .judge .ensures in
-      let r = c .before .before .before .before .before .before .before .before .before .before .before .before .before .pre .1 .0 .ready in
-      walked-outside r (j .below-one (c .before .before .before .before .before .before .before .if2 .taken)) (c .before .before .before .copy-outside .ensures)
+      let s = c .before .before .before .before .before .before .before .before .before .before .before .before in
+      let a = s .args .run .start in
+      let n = s .args .run .length in
+      let i = s .args .tally .inside in
+      let more : a + n - i ≡ a - i + n = omega (arith, s .pre .1 .3) in
+      let below = c .before .before .before .before .before .before .before .judge .ensures .below-one (c .before .before .before .before .before .before .if2 .taken) in
+      rw more (walked-outside (s .pre .1 .0 .ready) below (c .before .before .copy-outside .ensures))
 
   branch-same-length : branch-lts.Need-same-length branch-calls branch-at branch.Post
   branch-same-length c = branch-returns-2 c .filled .size
@@ -152,15 +159,18 @@ module _ (t : ℕ) where
       let l = lent-length (s .args .order .now) (s .args .run .start) (s .args .run .length) (r .fits) in
       omega (arith, r .room, r .size)
 
-  branch-add-settled-2 : branch-lts.Need-add-settled-2 branch-calls branch-at branch.Post
-  branch-add-settled-2 c = omega arith
+  branch-add-settled : branch-lts.Need-add-settled branch-calls branch-at branch.Post
+  branch-add-settled c = omega arith
 
   branch-returns-3 : branch-lts.Need-returns-3 branch-calls branch-at branch.Post
   branch-returns-3 c =
-      let j = c .before .before .before .before .before .before .before .before .before .judge .ensures in
-      let r = c .before .before .before .before .before .before .before .before .before .before .before .before .before .before .pre .1 .0 .ready in
-      let above = judged-above j (c .before .before .before .before .before .before .before .before .if2 .left) (c .before .before .before .before .before .before .if3 .taken) in
-      walked-inside r above (c .before .before .before .copy-inside .ensures)
+      let s = c .before .before .before .before .before .before .before .before .before .before .before .before .before .before in
+      let a = s .args .run .start in
+      let n = s .args .run .length in
+      let i = s .args .tally .inside in
+      let same : a + n - (i + n) ≡ a - i = omega arith in
+      let above = judged-above (c .before .before .before .before .before .before .before .before .before .judge .ensures) (c .before .before .before .before .before .before .before .before .if2 .left) (c .before .before .before .before .before .before .if3 .taken) in
+      rw same (walked-inside (s .pre .1 .0 .ready) above (c .before .before .before .copy-inside .ensures))
 
   branch-same-length-2 : branch-lts.Need-same-length-2 branch-calls branch-at branch.Post
   branch-same-length-2 c = branch-returns-3 c .filled .size
@@ -175,7 +185,7 @@ module _ (t : ℕ) where
       let n = c .before .before .if3 .left in
       let some : 0 < s .args .run .length = omega arith in
       let left : 0 < j .result .left = omega arith in
-      (omega (arith, s .pre .0), ((w, j .ensures .lives f, s .pre .1 .2), (some, judged-open (j .ensures) f (ready-own (w .ready) some) left)))
+      (omega (arith, s .pre .0), ((w, j .ensures .lives f, s .pre .1 .2, s .pre .1 .3), (some, judged-open (j .ensures) f (ready-own (w .ready) some) left)))
 
   branch-same-length-3 : branch-lts.Need-same-length-3 branch-calls branch-at branch.Post
   branch-same-length-3 c = c .before .before .node .ensures .filled .size
@@ -247,16 +257,22 @@ module _ (t : ℕ) where
       let s = c .before .before .before .before .before .before .before .before .before .before in
       let r = s .pre .1 .0 .0 .ready in
       let some = s .pre .1 .1 .0 in
-      omega (arith, r .room, r .size)
+      omega (arith, s .pre .1 .0 .3, r .fits, r .size)
 
   node-returns : node-lts.Need-returns node-calls node-at node.Post
   node-returns c =
       let s = c .before .before .before .before .before .before .before .before .before .before .before .before .before in
       let w = s .pre .1 .0 .0 in
       let some = s .pre .1 .1 .0 in
+      let a = s .args .run .start in
+      let n = s .args .run .length in
+      let i = s .args .tally .inside in
+      let i' = c .before .before .place .result .inside in
+      let before : a + n / 2 - i ≡ a - i = omega (arith, c .before .before .before .before .if1 .taken) in
+      let after : a + n - i' ≡ a + n / 2 + 1 - i' = omega (arith, c .before .before .before .before .if1 .taken) in
       let told = c .before .before .before .before .before .before .before .inside-live .ensures .tells (s .pre .1 .0 .1) (ready-own (w .ready) some) in
-      let f = rw (told, w .ready .size) at (c .before .before .place .ensures) in
-      walked-alone (w .ready) some (c .before .before .before .before .if1 .taken) (s .pre .1 .1 .1) f
+      let f = rw (told, w .ready .size, before) at (c .before .before .place .ensures) in
+      rw after (walked-alone (w .ready) some (c .before .before .before .before .if1 .taken) (s .pre .1 .1 .1) f)
 
   node-same-length : node-lts.Need-same-length node-calls node-at node.Post
   node-same-length c = node-returns c .filled .size
@@ -298,7 +314,12 @@ module _ (t : ℕ) where
       let l = left-is (c .before .before) in
       let own = ready-own (w .ready) some in (
         omega (arith, s .pre .0, l .slots),
-        (child-walkable k j l (walkable-left w some), child-lives k j l (lives-nested (left-nested own _) lives), child-splits k j l (w .some)),
+        (
+          child-walkable k j l (rw (l .starts) (walkable-left w some)),
+          child-lives k j l (lives-nested (left-nested own _) lives),
+          child-splits k j l (w .some),
+          rw (l .starts) (s .pre .1 .0 .3),
+        ),
       )
 
   node-place-requires-2 : node-lts.Need-place-requires-2 node-calls node-at node.Post
@@ -311,7 +332,7 @@ module _ (t : ℕ) where
       let l = left-is (c .before .before .before .before .before .before) in
       let v = child-walked k j l (s .args .order .now) refl (c .before .before .before .branch .ensures) in
       let half = run-length (s .args .order .now) (s .args .run .start) (s .args .run .length / 2) (omega arith) in
-      omega (arith, walked-numbers v, v .filled .size)
+      omega (arith, walked-numbers v, v .filled .size, l .starts, l .slots, s .pre .1 .0 .3, w .ready .fits, w .ready .size)
 
   node-branch-requires-2 : node-lts.Need-branch-requires-2 node-calls node-at node.Post
   node-branch-requires-2 c κs =
@@ -322,13 +343,19 @@ module _ (t : ℕ) where
       let lives = s .pre .1 .0 .1 in
       let some = s .pre .1 .1 .0 in
       let l = left-is (c .before .before .before .before .before .before .before .before .before .before) in
-      let v = child-walked k j l (s .args .order .now) refl (c .before .before .before .before .before .before .before .branch .ensures) in
+      let v = rw (l .starts, l .slots) at (child-walked k j l (s .args .order .now) refl (c .before .before .before .before .before .before .before .branch .ensures)) in
       let own = ready-own (w .ready) some in
       let told = c .before .before .before .before .before .before .before .before .before .before .before .before .before .before .before .before .inside-live .ensures .tells lives own in
       let f = rw (told, v .filled .size, w .ready .size) at (c .before .before .before .place2 .ensures) in
+      let half = run-length (s .args .order .now) (s .args .run .start) (s .args .run .length / 2) (omega (arith, w .ready .fits)) in
       let r = right-is (c .before .before .before .before .before .before .before .before .before) in (
         omega (arith, s .pre .0, r .slots),
-        (child-walkable k j r (walkable-right w some v f), child-lives k j r (lives-nested (right-nested own _) lives), child-splits k j r (w .some)),
+        (
+          child-walkable k j r (rw (r .starts) (walkable-right w some v f)),
+          child-lives k j r (lives-nested (right-nested own _) lives),
+          child-splits k j r (w .some),
+          rw (r .starts) (omega (arith, walked-numbers v, half, placed-most f, s .pre .1 .0 .3)),
+        ),
       )
 
   node-returns-2 : node-lts.Need-returns-2 node-calls node-at node.Post
@@ -340,12 +367,16 @@ module _ (t : ℕ) where
       let lives = s .pre .1 .0 .1 in
       let some = s .pre .1 .1 .0 in
       let l = left-is (c .before .before .before .before .before .before .before .before .before .before .before .before .before) in
-      let v = child-walked k j l (s .args .order .now) refl (c .before .before .before .before .before .before .before .before .before .before .branch .ensures) in
+      let v = rw (l .starts, l .slots) at (child-walked k j l (s .args .order .now) refl (c .before .before .before .before .before .before .before .before .before .before .branch .ensures)) in
       let own = ready-own (w .ready) some in
       let told = c .before .before .before .before .before .before .before .before .before .before .before .before .before .before .before .before .before .before .before .inside-live .ensures .tells lives own in
       let f = rw (told, v .filled .size, w .ready .size) at (c .before .before .before .before .before .before .place2 .ensures) in
       let r = right-is (c .before .before .before .before .before .before .before .before .before .before .before .before) in
-      walked-node (w .ready) some v f (s .pre .1 .1 .1) (child-walked k j r (s .args .order .now) refl (c .before .before .branch2 .ensures))
+      let a = s .args .run .start in
+      let n = s .args .run .length in
+      let i = c .before .before .branch2 .result .inside in
+      let all : a + n - i ≡ a + n / 2 + 1 + (n - n / 2 - 1) - i = omega (arith, some) in
+      rw all (walked-node (w .ready) some v f (s .pre .1 .1 .1) (rw (r .starts, r .slots) at (child-walked k j r (s .args .order .now) refl (c .before .before .branch2 .ensures))))
 
   node-same-length-2 : node-lts.Need-same-length-2 node-calls node-at node.Post
   node-same-length-2 c = node-returns-2 c .filled .size
@@ -357,12 +388,12 @@ pub +branch+node-spec : {M : Type 1} → statement M
     (branch-judge-requires t)
     (branch-add-e t)
     (branch-sub-end t)
+    (branch-sub-end-2 t)
     (branch-mul-copy-outside t)
     (branch-sub-copy-outside t)
     (branch-part-copy-outside-start t)
     (branch-part-copy-outside-end t)
     (branch-copy-outside-requires t)
-    (branch-add-settled t)
     (branch-same-length t)
     (branch-returns-2 t)
     (branch-mul-copy-inside t)
@@ -370,7 +401,7 @@ pub +branch+node-spec : {M : Type 1} → statement M
     (branch-part-copy-inside-start t)
     (branch-part-copy-inside-end t)
     (branch-copy-inside-requires t)
-    (branch-add-settled-2 t)
+    (branch-add-settled t)
     (branch-same-length-2 t)
     (branch-returns-3 t)
     (branch-node-requires t)

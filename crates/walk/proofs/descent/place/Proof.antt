@@ -1,5 +1,7 @@
 -- One store, in front or behind, is a run of one number.
-use mathlib.Core.Path.{refl}
+use mathlib.Core.Path.{_≡_, refl}
+use Prim.Native.Nat.{_+_, _-_}
+use native.Mathlib.Omega.{arith}
 use Rattle.walk.specs.Fill.{filled-in, filled-out}
 use borrow.Author.Needs.{needs}
 use Rattle.walk.proofs.descent.place.Statement.{statement}
@@ -21,8 +23,11 @@ returns : tie.Need-returns
 returns c =
     let s = c .before .before in
     let a = s .args in
+    let i = a .tally .inside in
+    let d = a .done in
+    let stays : d + 1 - (i + 1) ≡ d - i = omega arith in
     record {
-      filled = rw (c .before .if1 .taken) (filled-in (a .list .now) (a .tally .inside) (a .tally .outside) (a .p) refl (s .pre));
+      filled = rw (c .before .if1 .taken, stays) (filled-in (a .list .now) i (d - i) (a .p) refl (omega (arith, s .pre .0, s .pre .1)));
       visits = refl;
     }
 
@@ -32,24 +37,27 @@ sub-at c = search needs
 sub-at-2 : tie.Need-sub-at-2
 sub-at-2 c = search needs
 
+sub-at-3 : tie.Need-sub-at-3
+sub-at-3 c = search needs
+
 mul-list-2 : tie.Need-mul-list-2
 mul-list-2 c = search needs
 
 slice-write-list-2 : tie.Need-slice-write-list-2
 slice-write-list-2 c = search needs
 
-add-next-2 : tie.Need-add-next-2
-add-next-2 c = search needs
-
 same-length-2 : tie.Need-same-length-2
 same-length-2 c = search needs
 
 returns-2 : tie.Need-returns-2
 returns-2 c =
-    let s = c .before .before .before in
+    let s = c .before .before in
     let a = s .args in
+    let i = a .tally .inside in
+    let d = a .done in
+    let grows : d + 1 - i ≡ d - i + 1 = omega (arith, s .pre .0) in
     record {
-      filled = rw (c .before .before .if1 .left) (filled-out (a .list .now) (a .tally .inside) (a .tally .outside) (a .p) refl (s .pre));
+      filled = rw (c .before .if1 .left, grows) (filled-out (a .list .now) i (d - i) (a .p) refl (omega (arith, s .pre .0, s .pre .1)));
       visits = refl;
     }
 
@@ -64,8 +72,8 @@ place-spec =
     returns
     sub-at
     sub-at-2
+    sub-at-3
     mul-list-2
     slice-write-list-2
-    add-next-2
     same-length-2
     returns-2)
