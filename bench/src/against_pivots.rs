@@ -12,15 +12,27 @@ const SHORTEST: usize = 100;
 
 /// How the engine is played against.
 #[derive(Clone, Copy)]
-pub struct Play {
+struct Play {
     /// A pass by a sample takes off one number in so many; with 0, as few as it can.
-    pub taken: usize,
+    taken: usize,
     /// Whether the engine that is played against counts where a part is late, as the library's does.
-    pub counts: bool,
+    counts: bool,
 }
 
-/// The points of a shelf on which the engine that is played against makes little of each pass.
-pub fn against_pivots(k: usize, n: usize, play: Play) -> Vec<i32> {
+/// The points of a shelf on which each of the library's passes by a sample takes off one number in so many; with 0, as few as it can.
+pub fn against_pivots(k: usize, n: usize, taken: usize) -> Vec<i32> {
+    let counts = true;
+    played(k, n, Play { taken, counts })
+}
+
+/// The points of a shelf on which the library would make little of each pass if it never counted.
+pub fn against_uncounted(k: usize, n: usize) -> Vec<i32> {
+    let (taken, counts) = (0, false);
+    played(k, n, Play { taken, counts })
+}
+
+/// The points that come of a play.
+fn played(k: usize, n: usize, play: Play) -> Vec<i32> {
     let axis = || Axis {
         least: vec![GREATEST_LIFTED - START; n],
         greatest: vec![GREATEST_LIFTED; n],

@@ -1,6 +1,6 @@
 //! Shelves that are hard for some way of building.
 
-use crate::against_pivots::{against_pivots, Play};
+use crate::against_pivots::{against_pivots, against_uncounted};
 use crate::against_select::against_select;
 use crate::numbers::Numbers;
 use crate::stock::{any_coordinate, Kind, LEAST};
@@ -8,13 +8,7 @@ use crate::stock::{any_coordinate, Kind, LEAST};
 /// The kind that is made against the library's own way to choose pivots.
 pub const AGAINST_PIVOTS: Kind = Kind {
     name: "against pivots, as few as can be",
-    make: |k, n, _| {
-        let play = Play {
-            taken: 0,
-            counts: true,
-        };
-        against_pivots(k, n, play)
-    },
+    make: |k, n, _| against_pivots(k, n, 0),
 };
 
 /// The hard kinds. Each is the worst that was found for some engine, or a classic that has broken others.
@@ -62,23 +56,11 @@ pub const HARD: [Kind; 14] = [
     AGAINST_PIVOTS,
     Kind {
         name: "against pivots, an eighth",
-        make: |k, n, _| {
-            let play = Play {
-                taken: 8,
-                counts: true,
-            };
-            against_pivots(k, n, play)
-        },
+        make: |k, n, _| against_pivots(k, n, 8),
     },
     Kind {
         name: "against pivots, none counted",
-        make: |k, n, _| {
-            let play = Play {
-                taken: 0,
-                counts: false,
-            };
-            against_pivots(k, n, play)
-        },
+        make: |k, n, _| against_uncounted(k, n),
     },
     Kind {
         name: "against the standard select",
