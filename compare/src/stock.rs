@@ -17,17 +17,20 @@ pub enum Stock {
     Grey,
     /// At the ends of the range and beside them.
     Extremes,
+    /// In teeth of a ninth of the shelf, which mislead a sample at equal steps.
+    Teeth,
 }
 
 impl Stock {
     /// Every kind.
-    pub const ALL: [Stock; 6] = [
+    pub const ALL: [Stock; 7] = [
         Stock::Spread,
         Stock::Clustered,
         Stock::Ties,
         Stock::Equal,
         Stock::Grey,
         Stock::Extremes,
+        Stock::Teeth,
     ];
 
     /// `n` points of `k` coordinates, point 0 first.
@@ -46,6 +49,11 @@ impl Stock {
             Stock::Extremes => (0..k * n)
                 .map(|_| chance.one_of(&[-32_768, -32_767, -1, 0, 1, 32_766, 32_767]))
                 .collect(),
+            Stock::Teeth => {
+                let tooth = (n / 9).max(1);
+                let lifted = |i: usize| i / k % tooth * 65_535 / tooth;
+                (0..k * n).map(|i| lifted(i) as i32 - 32_768).collect()
+            }
         }
     }
 }

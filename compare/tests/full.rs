@@ -16,8 +16,9 @@ const N: usize = 65_535;
 #[test]
 fn full_shelves() {
     let mut nearness = Nearness::default();
-    cases::make("full shelves", 24, |chance, case| {
-        let (k, stock) = (1 + case % 4, Stock::ALL[case / 4 % 6]);
+    let kinds = Stock::ALL.len();
+    cases::make("full shelves", 4 * kinds, |chance, case| {
+        let (k, stock) = (1 + case % 4, Stock::ALL[case / 4 % kinds]);
         let points = stock.points(chance, k, N);
         let shelf = calls::shelf(&Lent::new(chance, k, points));
         let h = chance.one_of(&[1, 6, 14, 32]);

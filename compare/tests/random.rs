@@ -93,3 +93,8 @@ fn grey() {
 fn extremes() {
     shelves("extremes", Stock::Extremes);
 }
+
+#[test]
+fn teeth() {
+    shelves("teeth", Stock::Teeth);
+}
