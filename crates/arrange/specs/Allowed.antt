@@ -2,19 +2,19 @@
 -- A branch narrows its parent's bounds by its node's key, which says just that its numbers come before the node, or after it.
 use mathlib.Core.Path.{_≡_, sym, ap, _∙_}
 use mathlib.Core.Bool.{Bool, true, false, _&&_}
-use mathlib.Core.Logic.{_⊎_, inl, inr}
+use mathlib.Core.Logic.{inl, inr}
 use mathlib.Core.List.{List}
 use Prim.Native.Nat.{ℕ, _+_, _≤_, _<_}
-use native.Mathlib.Decide.{ℕ-discrete}
 use native.Mathlib.Omega.{arith}
 use lib.ListN.{length, getD, set}
-use lib.Seq.{getD-set-same, getD-set-other}
+use lib.Seq.{getD-set-same}
 use lib.IntN.{ℤ}
 use lib.Dec.{leb, ltb}
 use borrow.Author.Tests.{leb-true, le-leb, ltb-true, lt-ltb}
 use Rattle.terms.specs.Tests.{allTo}
 use Rattle.terms.specs.Before.{before}
 use Rattle.theory.specs.Flags.{contra, and-true, true-and}
+use Rattle.theory.specs.Stores.{Stored, stored}
 use Rattle.theory.specs.AllAndAny.{all-each, each-all}
 
 -- The key lies within the bounds of dimension d: at least the least, and below the end.
@@ -103,17 +103,6 @@ module _ (k : ℕ) (belongs : ℕ → Bool) (key : ℕ → ℕ → ℕ) (least e
         third = true-and (w .third) (each-all k (λ d. within d r) (λ d l. on d l .third));
       })
 
--- What stands on dimension d once the place s holds x: x there, the old elsewhere.
-abbrev Stored : List ℕ → ℕ → ℕ → ℕ → Type 0
-Stored xs s x d = ((d ≡ s) × (getD (set xs s x) d 0 ≡ x)) ⊎ (getD (set xs s x) d 0 ≡ getD xs d 0)
-
-stored : (xs : List ℕ) (s x d : ℕ) → s < length xs → Stored xs s x d
-stored xs s x d l = go (ℕ-discrete d s)
-  where
-    go : Dec (d ≡ s) → Stored xs s x d
-    go (yes e) = inl (e, rw e (getD-set-same xs s x 0 l))
-    go (no n) = inr (getD-set-other xs s d x 0 n)
-
 -- On numbers that belong, the order of the shelf is the order of the keys.
 abbrev pub Ordered : ℕ → (ℕ → ℕ → ℤ) → (ℕ → Bool) → (ℕ → ℕ → ℕ) → Type 0
 Ordered k at belongs key = (d p q : ℕ) → d < k → belongs p ≡ true → belongs q ≡ true → before at d p q ≡ ltb (key d p) (key d q)
@@ -124,30 +113,30 @@ module _ (k : ℕ) (at : ℕ → ℕ → ℤ) (belongs : ℕ → Bool) (key : �
     pub left-allowed : s < length end → Allowed k belongs key least end p → before at s p v ≡ true
         → Allowed k belongs key least (set end s (key s v)) p
     left-allowed n a b =
-        record { belonging = a .belonging; from-least = a .from-least; below-end = λ d h. go d h (stored end s (key s v) d n) }
+        record { belonging = a .belonging; from-least = a .from-least; below-end = λ d h. go d h (stored end s (key s v) 0 d n) }
       where
-        go : (d : ℕ) → d < k → Stored end s (key s v) d → key d p < getD (set end s (key s v)) d 0
+        go : (d : ℕ) → d < k → Stored end s (key s v) 0 d → key d p < getD (set end s (key s v)) d 0
         go d h (inl e) = rw (e .1, e .0) (ltb-true (key s p) (key s v) (sym (ordered s p v l (a .belonging) (w .belonging)) ∙ b))
         go d h (inr e) = rw e (a .below-end d h)
 
     pub allowed-left : s < length end → Allowed k belongs key least (set end s (key s v)) p
         → Allowed k belongs key least end p × (before at s p v ≡ true)
     allowed-left n a = (
-      record { belonging = a .belonging; from-least = a .from-least; below-end = λ d h. go d h (stored end s (key s v) d n) },
+      record { belonging = a .belonging; from-least = a .from-least; below-end = λ d h. go d h (stored end s (key s v) 0 d n) },
       ordered s p v l (a .belonging) (w .belonging)
           ∙ lt-ltb (key s p) (key s v) (omega (arith, a .below-end s l, getD-set-same end s (key s v) 0 n)),
     )
       where
-        go : (d : ℕ) → d < k → Stored end s (key s v) d → key d p < getD end d 0
+        go : (d : ℕ) → d < k → Stored end s (key s v) 0 d → key d p < getD end d 0
         go d h (inl e) = omega (arith, a .below-end d h, w .below-end s l, ap (λ (i : ℕ). getD end i 0) (e .0))
         go d h (inr e) = omega (arith, a .below-end d h)
 
     pub right-allowed : s < length least → Allowed k belongs key least end p → before at s v p ≡ true
         → Allowed k belongs key (set least s (key s v + 1)) end p
     right-allowed n a b =
-        record { belonging = a .belonging; from-least = λ d h. go d h (stored least s (key s v + 1) d n); below-end = a .below-end }
+        record { belonging = a .belonging; from-least = λ d h. go d h (stored least s (key s v + 1) 0 d n); below-end = a .below-end }
       where
-        go : (d : ℕ) → d < k → Stored least s (key s v + 1) d → getD (set least s (key s v + 1)) d 0 ≤ key d p
+        go : (d : ℕ) → d < k → Stored least s (key s v + 1) 0 d → getD (set least s (key s v + 1)) d 0 ≤ key d p
         go d h (inl e) = omega (
           arith,
           ltb-true (key s v) (key s p) (sym (ordered s v p l (w .belonging) (a .belonging)) ∙ b),
@@ -158,11 +147,11 @@ module _ (k : ℕ) (at : ℕ → ℕ → ℤ) (belongs : ℕ → Bool) (key : �
     pub allowed-right : s < length least → Allowed k belongs key (set least s (key s v + 1)) end p
         → Allowed k belongs key least end p × (before at s v p ≡ true)
     allowed-right n a = (
-      record { belonging = a .belonging; from-least = λ d h. go d h (stored least s (key s v + 1) d n); below-end = a .below-end },
+      record { belonging = a .belonging; from-least = λ d h. go d h (stored least s (key s v + 1) 0 d n); below-end = a .below-end },
       ordered s v p l (w .belonging) (a .belonging)
           ∙ lt-ltb (key s v) (key s p) (omega (arith, a .from-least s l, getD-set-same least s (key s v + 1) 0 n)),
     )
       where
-        go : (d : ℕ) → d < k → Stored least s (key s v + 1) d → getD least d 0 ≤ key d p
+        go : (d : ℕ) → d < k → Stored least s (key s v + 1) 0 d → getD least d 0 ≤ key d p
         go d h (inl e) = omega (arith, a .from-least d h, w .from-least s l, ap (λ (i : ℕ). getD least i 0) (e .0))
         go d h (inr e) = omega (arith, a .from-least d h)

@@ -63,16 +63,11 @@ module _ {lo top pass : ℕ} (w : Passed lo top pass) where
             let s : (pass + 1) / 2 ≡ pass / 2 = omega (arith, ltb-false) in
             rw s (omega (arith, w .near))
 
+    counted : pass + 1 ≤ 64
+    counted = omega (arith, pass-left (omega (arith, p .above, p .within)))
+
     pub passed-left : Passed lo (r - 1) (pass + 1)
-    passed-left =
-        record {
-          near = half lo (r - 1) (omega (arith, p .within)) (λ o. omega (arith, p .middle o));
-          most = omega (arith, pass-left (omega (arith, p .above, p .within)));
-        }
+    passed-left = record { near = half lo (r - 1) (omega (arith, p .within)) (λ o. omega (arith, p .middle o)); most = counted }
 
     pub passed-right : Passed r top (pass + 1)
-    passed-right =
-        record {
-          near = half r top (omega (arith, p .above)) (λ o. omega (arith, p .middle o));
-          most = omega (arith, pass-left (omega (arith, p .above, p .within)));
-        }
+    passed-right = record { near = half r top (omega (arith, p .above)) (λ o. omega (arith, p .middle o)); most = counted }

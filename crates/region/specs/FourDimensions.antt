@@ -7,7 +7,7 @@ use native.Mathlib.Omega.{arith}
 use lib.ListN.{length, getD, set, length-set}
 use lib.IntN.{ℤ, pos, _+ℤ_}
 use Rattle.whole.specs.IndexedSum.{sumTo, sum-next}
-use Rattle.region.specs.Stores.{store-next}
+use Rattle.theory.specs.Stores.{store-next}
 
 -- Those of the first d places that are below k hold the value's.
 pub record FilledTo (k : ℕ) (value : ℕ → ℤ) (d : ℕ) (places : List ℤ) : Type 0 where

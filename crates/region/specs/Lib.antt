@@ -1,4 +1,3 @@
-pub mod Stores
 pub mod FourDimensions
 pub mod Ranges
 pub mod Points

@@ -1,6 +1,7 @@
 pub mod Flags
 pub mod AllAndAny
 pub mod Counting
+pub mod Stores
 pub mod RunParts
 pub mod Tested
 pub mod BeforeIsAnOrder

@@ -1,24 +1,22 @@
 -- The root box in one pass. The coordinates are dealt to lanes in turn, as cards are, and a lane keeps the least and the greatest of what it was dealt.
 -- Since the lanes are a multiple of k, dealing them to k places deals the coordinates to k places, one for each dimension.
-use mathlib.Core.Path.{_≡_, refl, sym, ap, _∙_}
-use mathlib.Core.Bool.{Bool, true, false}
+use mathlib.Core.Path.{_≡_, sym, ap, _∙_}
 use mathlib.Core.List.{List}
-use mathlib.Core.Logic.{_≢_}
+use mathlib.Core.Logic.{⊎-elim}
 use Prim.Native.Nat.{ℕ, zero, suc, _+_, _*_, _/_, _%_, _≤_, _<_}
 use native.Mathlib.Nat.{not-suc-le-zero, mod-lt, mod-eq-of-lt, mul-add-mod-self-right, div-add-mod', div-lt-iff-lt-mul}
 use native.Mathlib.Omega.{arith}
 use lib.ListN.{length, getD, set, replicate, length-set, length-replicate, getD-replicate}
-use lib.Seq.{getD-set-same, getD-set-other}
+use lib.Seq.{getD-set-same}
 use lib.IntN.{ℤ, pos, negsuc}
 use lib.Signed.{_≤ℤ_}
-use lib.Dec.{eqb}
 use borrow.Author.Count.{below-more}
-use borrow.Author.Tests.{eqb-true, eqb-false}
-use Rattle.whole.specs.Order.{le-trans, le-antisym, lesser, greater, lesser-le-left, lesser-le-right, le-lesser}
-use Rattle.whole.specs.Order.{le-greater-left, le-greater-right, greater-le}
+use Rattle.whole.specs.Order.{lesser, greater}
+use Rattle.whole.specs.Choices.{atLeast, Choice, least-choice, greatest-choice}
 use Rattle.terms.specs.Tests.{rising}
 use Rattle.terms.specs.Points.{coord, lone}
 use Rattle.terms.specs.Box.{Box, rootBox}
+use Rattle.theory.specs.Stores.{stored}
 use Rattle.theory.specs.Tested.{Between, TestedPoints}
 use Rattle.theory.specs.RisingNumbers.{length-rising, rising-at}
 use Rattle.theory.specs.Boxes.{In, Alike}
@@ -31,38 +29,11 @@ use Rattle.region.specs.Points.{HasPoint, has-point}
 pub record Known (k : ℕ) (points : List ℤ) (order : List ℕ) : Type 0 where
   pub each : (i : ℕ) → i < length order → HasPoint k points (getD order i 0)
 
--- The order of the greatest: what is greater comes first.
-abbrev pub atLeast : ℤ → ℤ → Type 0
-atLeast a b = b ≤ℤ a
-
 -- The first i values are dealt to w lanes in turn. What a lane keeps comes before each value dealt to it, and after all that come before those and the start.
 pub record Row (le : ℤ → ℤ → Type 0) (w : ℕ) (value : ℕ → ℤ) (start : ℤ) (i : ℕ) (row : List ℤ) : Type 0 where
   pub wide : w ≤ length row
   pub before : (u : ℕ) → u < i → le (lone row (u % w)) (value u)
   pub after : (z : ℤ) (j : ℕ) → j < w → le z start → ((u : ℕ) → u < i → u % w ≡ j → le z (value u)) → le z (lone row j)
-
--- An order of numbers, and the choice of that of two which comes first in it.
-record Choice (le : ℤ → ℤ → Type 0) (pick : ℤ → ℤ → ℤ) : Type 0 where
-  trans : {a b c : ℤ} → le a b → le b c → le a c
-  left : (a b : ℤ) → le (pick a b) a
-  right : (a b : ℤ) → le (pick a b) b
-  both : {z a b : ℤ} → le z a → le z b → le z (pick a b)
-  antisym : {a b : ℤ} → le a b → le b a → a ≡ b
-
--- The lesser of two, and the greater.
-least-choice : Choice _≤ℤ_ lesser
-least-choice = record { trans = le-trans; left = lesser-le-left; right = lesser-le-right; both = le-lesser; antisym = le-antisym }
-
-greatest-choice : Choice atLeast greater
-greatest-choice = record { trans = λ h k. le-trans k h; left = le-greater-left; right = le-greater-right; both = greater-le; antisym = λ h k. le-antisym k h }
-
--- What holds of the value stored at place j, and at the others of what stood there, holds after the store.
-stored-by : (P : ℤ → Type 0) (row : List ℤ) (j : ℕ) (x : ℤ) (e : ℕ) → j < length row → (e ≡ j → P x) → (e ≢ j → P (lone row e)) → P (lone (set row j x) e)
-stored-by P row j x e l new old = go (eqb e j) refl
-  where
-    go : (t : Bool) → eqb e j ≡ t → P (lone (set row j x) e)
-    go true q = let s = eqb-true e j q in rw (s, getD-set-same row j x (pos 0) l) (new s)
-    go false q = let s = eqb-false e j q in rw (getD-set-other row j e x (pos 0) s) (old s)
 
 -- Before the first value every lane has the start.
 row-none : {le : ℤ → ℤ → Type 0} (w n : ℕ) (value : ℕ → ℤ) (start : ℤ) → w ≤ n → Row le w value start 0 (replicate n start)
@@ -84,7 +55,9 @@ module _ {le : ℤ → ℤ → Type 0} {pick : ℤ → ℤ → ℤ} (c : Choice 
       room = omega (arith, r .wide)
 
       before : (u : ℕ) → u < i → le (lone (set row j x) (u % w)) (value u)
-      before u m = stored-by (λ y. le y (value u)) row j x (u % w) room (λ e. c .trans (c .left _ _) (rw e at (r .before u m))) (λ n. r .before u m)
+      before u m =
+          let old = r .before u m in
+          ⊎-elim (λ s. rw (s .1) (c .trans (c .left _ _) (rw (s .0) at old))) (λ s. rw s old) (stored row j x (pos 0) (u % w) room)
 
       here : le (lone (set row j x) (i % w)) (value i)
       here = rw (at, getD-set-same row j x (pos 0) room) (c .right (lone row j) (value i))
@@ -92,7 +65,7 @@ module _ {le : ℤ → ℤ → Type 0} {pick : ℤ → ℤ → ℤ} (c : Choice 
       after : (z : ℤ) (e : ℕ) → e < w → le z start → ((u : ℕ) → u < i + 1 → u % w ≡ e → le z (value u)) → le z (lone (set row j x) e)
       after z e m zs all =
           let old = r .after z e m zs (λ u n. all u (omega arith)) in
-          stored-by (le z) row j x e room (λ q. c .both (rw q at old) (all i (omega arith) (at ∙ sym q))) (λ n. old)
+          ⊎-elim (λ s. rw (s .1) (c .both (rw (s .0) at old) (all i (omega arith) (at ∙ sym (s .0))))) (λ s. rw s old) (stored row j x (pos 0) e room)
 
   -- The lanes themselves dealt to k places: where the lanes are a multiple of k, the values are dealt to k places.
   row-of-lanes : {k : ℕ} {short : List ℤ} → 0 < w → ((u : ℕ) → u % w % k ≡ u % k) → Row le k (lone row) start w short → Row le k value start i short

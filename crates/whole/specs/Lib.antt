@@ -1,5 +1,6 @@
 pub mod Parts
 pub mod Order
+pub mod Choices
 pub mod Sums
 pub mod Products
 pub mod Magnitudes

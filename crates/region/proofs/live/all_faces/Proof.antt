@@ -4,7 +4,7 @@ use Prim.Native.Nat.{ℕ, _≤_, _<_, _-_}
 use native.Mathlib.Omega.{arith}
 use lib.ListN.{length, getD, length-set}
 use borrow.Author.Needs.{needs}
-use Rattle.region.specs.Stores.{store-next}
+use Rattle.theory.specs.Stores.{store-next}
 use Rattle.region.specs.Live.{all-live}
 use Rattle.region.proofs.live.all_faces.Statement.{statement}
 use Rattle.region.proofs.live.all_faces.Tie as tie
