@@ -11,6 +11,7 @@ use lib.ListN.{length, getD, take, drop, length-append, length-take, length-drop
 use lib.Seq.{drop-cons, split-at, take-at, getD-at, take-append-add, drop-append-add, getD-take, getD-drop, take-all, length-take-le}
 use lib.IntN.{ℤ}
 use Rattle.terms.specs.Tests.{every}
+use Rattle.terms.specs.Lent.{stock}
 use Rattle.terms.specs.Points.{below}
 use Rattle.terms.specs.Before.{before}
 use Rattle.terms.specs.Run.{middle, axis, node, lefts, rights}
@@ -194,7 +195,7 @@ module _ {k : ℕ} {points : List ℤ} {s : ℕ} {xs : List ℕ} (w : Arrangeabl
       rw getD-drop (every-at test 0 xs (w .keyed .numbers) (c + i) (omega arith))))
 
 -- ---- the whole shelf
-pub members-arrangeable : {k m : ℕ} {points : List ℤ} → TestedPoints k m points → Arrangeable k points 0 (members (below m) m)
+pub members-arrangeable : {k m : ℕ} {points : List ℤ} → TestedPoints (stock k m points) → Arrangeable k points 0 (members (below m) m)
 members-arrangeable {m = m} tested =
     let each = members-each (below m) m same-refl in
     record {

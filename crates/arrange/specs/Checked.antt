@@ -9,6 +9,7 @@ use lib.ListN.{length, getD, replicate, getD-replicate}
 use lib.IntN.{ℤ}
 use lib.Dec.{ltb}
 use Rattle.terms.specs.Tests.{every}
+use Rattle.terms.specs.Lent.{stock}
 use Rattle.terms.specs.Points.{coord, below}
 use Rattle.terms.specs.Tree.{treeRun, isTree}
 use Rattle.theory.specs.Flags.{same-test}
@@ -35,12 +36,12 @@ branchAllowed k m points least end s run = isBranch k (coord k points) (below m)
 
 -- What the descent requires: tested points, a dimension to split on, and two bounds for each dimension.
 pub record Descends (k m : ℕ) (points : List ℤ) (s : ℕ) (least end : List ℕ) : Type 0 where
-  pub tested : TestedPoints k m points
+  pub tested : TestedPoints (stock k m points)
   pub dimension : s < k
   pub least-size : k ≤ length least
   pub end-size : k ≤ length end
 
-module _ {k m : ℕ} {points : List ℤ} (tested : TestedPoints k m points) where
+module _ {k m : ℕ} {points : List ℤ} (tested : TestedPoints (stock k m points)) where
   -- A number that belongs has a key on each dimension.
   pub keyed : (d p : ℕ) → d < k → below m p ≡ true → Keyed k points d p
   keyed d p l e = record { m = m; tested = tested; dimension = l; number = below-under m p e }

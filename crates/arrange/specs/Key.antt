@@ -4,7 +4,6 @@ use mathlib.Core.Path.{_≡_, refl, sym}
 use mathlib.Core.Bool.{Bool, true, false, _&&_, _||_}
 use mathlib.Core.List.{List}
 use Prim.Native.Nat.{ℕ, _+_, _*_, _%_, _^_, _<_}
-use native.Mathlib.Nat.{mul-comm, mul-le-mul-right}
 use native.Mathlib.Omega.{arith}
 use lib.ListN.{length}
 use lib.IntN.{ℤ, pos, negsuc, natAbs, _+ℤ_}
@@ -16,10 +15,11 @@ use mir.Val.{SFits, toZ, ofZ}
 use mir.Facts.{toZ-ofZ}
 use Rattle.whole.specs.Parts.{up, dn, ints, flags, sum-parts, abs-parts}
 use Rattle.whole.specs.Fits.{sfits-abs}
+use Rattle.terms.specs.Lent.{stock}
 use Rattle.terms.specs.Points.{coord}
 use Rattle.terms.specs.Before.{before}
 use Rattle.theory.specs.Flags.{same-test}
-use Rattle.theory.specs.Tested.{Between, TestedPoints}
+use Rattle.theory.specs.Tested.{Between, TestedPoints, coordinate-place}
 
 -- A coordinate lifted above 0.
 abbrev pub lifted : ℤ → ℕ
@@ -32,16 +32,16 @@ keyOf k points s p = lifted (coord k points p s) * 65536 + p
 -- Number p has a key on dimension s: it is one of m numbers whose points were tested.
 pub record Keyed (k : ℕ) (points : List ℤ) (s p : ℕ) : Type 0 where
   pub m : ℕ
-  pub tested : TestedPoints k m points
+  pub tested : TestedPoints (stock k m points)
   pub dimension : s < k
   pub number : p < m
 
 -- Where the coordinate lies.
-pub coordinate-place : {k s p : ℕ} {points : List ℤ} → Keyed k points s p → p * k + s < length points
-coordinate-place {k} {s} {p} w = omega (arith, mul-le-mul-right k (w .number), mul-comm k (w .m))
+pub key-place : {k s p : ℕ} {points : List ℤ} → Keyed k points s p → p * k + s < length points
+key-place {k} {points = points} w = coordinate-place k (w .m) points (w .tested .size) (w .number) (w .dimension)
 
 pub coordinate-range : {k s p : ℕ} {points : List ℤ} → Keyed k points s p → Between (negsuc 32767) (coord k points p s) (pos 32767)
-coordinate-range {k} {s} {p} w = w .tested .ranges (p * k + s) (coordinate-place w)
+coordinate-range {s = s} {p} w = w .tested .each p (lt-ltb p (w .m) (w .number)) .ranges s (w .dimension)
 
 -- What is lifted is the coordinate and 32,768 more.
 pub lifted-parts : (z : ℤ) → Between (negsuc 32767) z (pos 32767) → lifted z + dn z ≡ up z + 32768

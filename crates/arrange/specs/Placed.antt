@@ -11,6 +11,7 @@ use lib.IntN.{ℤ}
 use lib.Dec.{eqb}
 use borrow.Author.Tests.{ltb-true, lt-ltb, eqb-true, eq-eqb}
 use Rattle.terms.specs.Tests.{every}
+use Rattle.terms.specs.Lent.{stock}
 use Rattle.terms.specs.Points.{coord, below}
 use Rattle.terms.specs.Before.{before}
 use Rattle.theory.specs.Flags.{and-true, true-and}
@@ -23,7 +24,7 @@ use Rattle.arrange.specs.WrittenInPlace.{map-at}
 -- Every number of the run is one of m numbers whose points were tested, and dimension s is one of theirs.
 pub record KeyedRun (k : ℕ) (points : List ℤ) (s : ℕ) (run : List ℕ) : Type 0 where
   pub m : ℕ
-  pub tested : TestedPoints k m points
+  pub tested : TestedPoints (stock k m points)
   pub dimension : s < k
   pub numbers : every (below m) run ≡ true
 

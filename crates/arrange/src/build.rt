@@ -3,6 +3,7 @@ ghost use mathlib.Core.Path.{_≡_};
 ghost use mathlib.Core.Bool.{true};
 ghost use Prim.Native.Nat.{_<_, _≤_};
 ghost use lib.ListN.{length};
+ghost use Rattle.terms.specs.Lent.{stock};
 ghost use Rattle.terms.specs.Points.{coord, below};
 ghost use Rattle.terms.specs.Tree.{members, isTree};
 ghost use Rattle.theory.specs.Tested.{TestedPoints};
@@ -64,7 +65,7 @@ fn fill(m: usize, order: &mut [u32])
 
 // Builds the tree of the m points in the lent order, which has a slot for each.
 pub fn build(k: usize, m: usize, points: &[i32], order: &mut [u32])
-    requires { ⌜ TestedPoints k m (now points) ⌝ }
+    requires { ⌜ TestedPoints (stock k m (now points)) ⌝ }
     requires { ⌜ length (now order) ≡ m ⌝ }
     ensures { λ _. ⌜ isTree k (coord k (now (points .entry))) (below m) m (now (order .exit)) ≡ true ⌝ }
 {

@@ -7,6 +7,7 @@ use terms::axis::next_axis;
 ghost use mathlib.Core.Path.{_≡_};
 ghost use Prim.Native.Nat.{_<_};
 ghost use lib.ListN.{length};
+ghost use Rattle.terms.specs.Lent.{stock};
 ghost use Rattle.terms.specs.Points.{coord, below};
 ghost use Rattle.terms.specs.Tree.{isTree};
 ghost use Rattle.theory.specs.Tested.{TestedPoints};
@@ -24,7 +25,7 @@ fn three_allowed(
     q: u32,
     r: u32,
 ) -> bool
-    requires { ⌜ TestedPoints k m (now points) ⌝ }
+    requires { ⌜ TestedPoints (stock k m (now points)) ⌝ }
     ensures { λ t. ⌜ t ≡ threeAllowed k m (now (points .entry)) least end p q r ⌝ }
 {
     if !(belongs(m, p) & belongs(m, q) & belongs(m, r)) {
@@ -50,7 +51,7 @@ fn three_allowed(
 
 // The same of one number.
 fn allowed(k: usize, m: usize, points: &[i32], least: [u32; 4], end: [u32; 4], p: u32) -> bool
-    requires { ⌜ TestedPoints k m (now points) ⌝ }
+    requires { ⌜ TestedPoints (stock k m (now points)) ⌝ }
     ensures { λ r. ⌜ r ≡ numberAllowed k m (now (points .entry)) least end p ⌝ }
 {
     three_allowed(k, m, points, least, end, p, p, p)
@@ -167,7 +168,7 @@ fn node(
 
 // Whether the order is the tree of the m numbers: the descent from the root, where every key is allowed.
 pub fn check(k: usize, m: usize, points: &[i32], order: &[u32]) -> bool
-    requires { ⌜ TestedPoints k m (now points) ⌝ }
+    requires { ⌜ TestedPoints (stock k m (now points)) ⌝ }
     requires { ⌜ length (now order) ≡ m ⌝ }
     ensures { λ r. ⌜ r ≡ isTree k (coord k (now (points .entry))) (below m) m (now (order .entry)) ⌝ }
 {

@@ -10,8 +10,9 @@ use lib.Dec.{ltb}
 use Rattle.whole.specs.IndexedTotal.{totalTo}
 use Rattle.terms.specs.declared.Listing.{Listing}
 use Rattle.terms.specs.declared.Placing.{Placing}
-use Rattle.terms.specs.Points.{below}
-use Rattle.terms.specs.Tree.{eachOnce}
+use Rattle.terms.specs.Lent.{Stock, Order, Faces}
+use Rattle.terms.specs.Points.{pointOf, belongsTo, slotsOf}
+use Rattle.terms.specs.Tree.{eachOnce, shelfRun}
 use Rattle.terms.specs.Region.{region}
 use Rattle.terms.specs.Bound.{S, isSquare}
 use Rattle.terms.specs.Refusals.{buildRefusals, checkRefusals, listRefusals, placeRefusals}
@@ -20,42 +21,42 @@ use Rattle.theory.specs.OneOutcome.{built-once, built-same}
 use Rattle.theory.specs.FirstRefusalIsLowest.{Lowest, build-lowest, check-lowest, list-lowest, place-lowest}
 use Rattle.theory.specs.RefusalsPassed.{list-passed}
 use Rattle.theory.specs.InsideAndOutside.{shelf-lists-length, shelf-places-each}
-use Rattle.theory.specs.FaceLentAlone.{faceNormals, faceOffsets}
+use Rattle.theory.specs.FaceLentAlone.{faceAlone}
 use Rattle.theory.specs.VisitsOfTheListCall.{list-visits-le-faces, list-visits-le-S}
 use Rattle.theory.specs.WhatIsRead.{check-reads, list-answer-reads, list-after-reads}
 use Rattle.theory.specs.WhatIsWritten.{list-refused, list-first, list-later}
 
 -- ---- build
-module _ {k n : ℕ} {points : List ℤ} {order : List ℕ} {a : ℕ} {x : List ℕ} (e : Built k n points order a x) where
+module _ {s : Stock} {o : Order} {a : ℕ} {x : Order} (e : Built s o a x) where
   -- Two outcomes that satisfy the contract are equal.
-  pub build-once : {b : ℕ} {y : List ℕ} → Built k n points order b y → (a ≡ b) × (x ≡ y)
+  pub build-once : {b : ℕ} {y : Order} → Built s o b y → (a ≡ b) × (x .slots ≡ y .slots)
   build-once f = built-once e f
 
   -- The answer is the lowest refusal that holds, and 0 where none does.
-  pub build-answers-the-lowest : Lowest (buildRefusals k n points order) a
-  build-answers-the-lowest = rw (e .answered) (build-lowest k n points order)
+  pub build-answers-the-lowest : Lowest (buildRefusals s o) a
+  build-answers-the-lowest = rw (e .answered) (build-lowest s o)
 
   -- A refusal changes no lent number.
-  pub build-refused-writes-nothing : a ≢ 0 → x ≡ order
+  pub build-refused-writes-nothing : a ≢ 0 → x .slots ≡ o .slots
   build-refused-writes-nothing = e .refused
 
 -- The builder takes any first contents: only the places from n on, which it keeps, are left of them.
-pub build-reads-no-slot : {k n : ℕ} {points : List ℤ} {o q x y : List ℕ} → Built k n points o 0 x → Built k n points q 0 y → drop n o ≡ drop n q → x ≡ y
+pub build-reads-no-slot : {s : Stock} {o q x y : Order} → Built s o 0 x → Built s q 0 y → drop (slotsOf s) (o .slots) ≡ drop (slotsOf s) (q .slots) → x .slots ≡ y .slots
 build-reads-no-slot e f later = built-same e f later
 
 -- ---- check
-module _ (k n : ℕ) (points : List ℤ) (order : List ℕ) {a : ℕ} (e : a ≡ checkAnswer k n points order) where
+module _ (s : Stock) (o : Order) {a : ℕ} (e : a ≡ checkAnswer s o) where
   -- Two outcomes that satisfy the contract are equal.
-  pub check-once : {b : ℕ} → b ≡ checkAnswer k n points order → a ≡ b
+  pub check-once : {b : ℕ} → b ≡ checkAnswer s o → a ≡ b
   check-once f = e ∙ sym f
 
   -- The answer is the lowest refusal that holds, and 0 where none does.
-  pub check-answers-the-lowest : Lowest (checkRefusals k n points order) a
-  check-answers-the-lowest = rw e (check-lowest k n points order)
+  pub check-answers-the-lowest : Lowest (checkRefusals s o) a
+  check-answers-the-lowest = rw e (check-lowest s o)
 
   -- Places from n on are not read.
-  pub check-reads-n-slots : (q : List ℕ) → take n order ≡ take n q → {b : ℕ} → b ≡ checkAnswer k n points q → a ≡ b
-  check-reads-n-slots q same f = e ∙ check-reads k n points order q same ∙ sym f
+  pub check-reads-n-slots : (q : Order) → shelfRun s o ≡ shelfRun s q → {b : ℕ} → b ≡ checkAnswer s q → a ≡ b
+  check-reads-n-slots q same f = e ∙ check-reads s o q same ∙ sym f
 
 -- An answer's number is that of the refusal, and 0 where none holds.
 code-of : {A : Type 0} (code : A → ℕ) (c : ℕ) (done refused : A) → code done ≡ 0 → code refused ≡ c → code (ifDone c done refused) ≡ c
@@ -63,78 +64,78 @@ code-of code zero done refused d r = d
 code-of code (suc c) done refused d r = r
 
 -- ---- the one-point test
-module _ (k h : ℕ) (point normals offsets : List ℤ) {a : Placing} (e : a ≡ placeAnswer k h point normals offsets) where
+module _ (k : ℕ) (point : List ℤ) (f : Faces) {a : Placing} (e : a ≡ placeAnswer k point f) where
   -- Two outcomes that satisfy the contract are equal.
-  pub place-once : {b : Placing} → b ≡ placeAnswer k h point normals offsets → a ≡ b
-  place-once f = e ∙ sym f
+  pub place-once : {b : Placing} → b ≡ placeAnswer k point f → a ≡ b
+  place-once g = e ∙ sym g
 
-  place-number : a .code ≡ placeCode k h point normals offsets
+  place-number : a .code ≡ placeCode k point f
   unfolding placeAnswer
   place-number =
-      ap (λ (r : Placing). r .code) e ∙ code-of (λ (r : Placing). r .code) (placeCode k h point normals offsets) _ _ refl refl
+      ap (λ (r : Placing). r .code) e ∙ code-of (λ (r : Placing). r .code) (placeCode k point f) _ _ refl refl
 
   -- The number is the lowest refusal that holds, and 0 where none does.
-  pub place-answers-the-lowest : Lowest (placeRefusals k h point normals offsets) (a .code)
-  place-answers-the-lowest = rw place-number (place-lowest k h point normals offsets)
+  pub place-answers-the-lowest : Lowest (placeRefusals k point f) (a .code)
+  place-answers-the-lowest = rw place-number (place-lowest k point f)
 
 -- ---- list
-module _ (k n h : ℕ) (points : List ℤ) (order : List ℕ) (normals offsets : List ℤ) (list : List ℕ) where
-  answer-code : listAnswer k n h points order normals offsets list .code ≡ listCode k n h points order normals offsets list
+module _ (s : Stock) (o : Order) (f : Faces) (list : List ℕ) where
+  answer-code : listAnswer s o f list .code ≡ listCode s o f list
   unfolding listAnswer
-  answer-code = code-of (λ (r : Listing). r .code) (listCode k n h points order normals offsets list) _ _ refl refl
+  answer-code = code-of (λ (r : Listing). r .code) (listCode s o f list) _ _ refl refl
 
-  module _ {a : Listing} {x : List ℕ} (e : ListedAs k n h points order normals offsets list a x) where
-    code : a .code ≡ listCode k n h points order normals offsets list
+  module _ {a : Listing} {x : List ℕ} (e : ListedAs s o f list a x) where
+    code : a .code ≡ listCode s o f list
     code = ap (λ (r : Listing). r .code) (e .answered) ∙ answer-code
 
     -- Two outcomes that satisfy the contract are equal.
-    pub list-once : {b : Listing} {y : List ℕ} → ListedAs k n h points order normals offsets list b y → (a ≡ b) × (x ≡ y)
-    list-once f = (e .answered ∙ sym (f .answered), e .written ∙ sym (f .written))
+    pub list-once : {b : Listing} {y : List ℕ} → ListedAs s o f list b y → (a ≡ b) × (x ≡ y)
+    list-once g = (e .answered ∙ sym (g .answered), e .written ∙ sym (g .written))
 
     -- The number is the lowest refusal that holds, and 0 where none does.
-    pub list-answers-the-lowest : Lowest (listRefusals k n h points order normals offsets list) (a .code)
-    list-answers-the-lowest = rw code (list-lowest k n h points order normals offsets list)
+    pub list-answers-the-lowest : Lowest (listRefusals s o f list) (a .code)
+    list-answers-the-lowest = rw code (list-lowest s o f list)
 
     -- A refusal changes no lent number.
     pub list-refused-writes-nothing : a .code ≢ 0 → x ≡ list
-    list-refused-writes-nothing m = e .written ∙ list-refused k n h points order normals offsets list (λ z. m (code ∙ z))
+    list-refused-writes-nothing m = e .written ∙ list-refused s o f list (λ z. m (code ∙ z))
 
     module _ (done : a .code ≡ 0) where
-      passed : listCode k n h points order normals offsets list ≡ 0
+      passed : listCode s o f list ≡ 0
       passed = sym code ∙ done
 
       -- Inside plus outside is n.
-      pub list-counts-n : a .inside + a .outside ≡ n
+      pub list-counts-n : a .inside + a .outside ≡ slotsOf s
       unfolding listAnswer
       list-counts-n =
           rw (e .answered, passed)
-          (shelf-lists-length k n points order (list-passed k n h points order normals offsets list passed .shelf) (region k h normals offsets))
+          (shelf-lists-length s o (list-passed s o f list passed .shelf) (region (s .k) f))
 
       -- The buffer holds each number once.
-      pub list-holds-each-once : eachOnce (below n) n (take n x) ≡ true
+      pub list-holds-each-once : eachOnce (belongsTo s) (s .n) (take (slotsOf s) x) ≡ true
       list-holds-each-once =
-          rw (e .written, list-first k n h points order normals offsets list passed)
-          (shelf-places-each k n points order (list-passed k n h points order normals offsets list passed .shelf) (region k h normals offsets))
+          rw (e .written, list-first s o f list passed)
+          (shelf-places-each s o (list-passed s o f list passed .shelf) (region (s .k) f))
 
       -- Places from n on are not written.
-      pub list-keeps-later-places : drop n x ≡ drop n list
-      list-keeps-later-places = rw (e .written) (list-later k n h points order normals offsets list passed)
+      pub list-keeps-later-places : drop (slotsOf s) x ≡ drop (slotsOf s) list
+      list-keeps-later-places = rw (e .written) (list-later s o f list passed)
 
     -- "For any region, square or not, visits are at most the sum of the visits of each face taken as a region alone."
     pub visits-at-most-the-faces
-        : a .visits ≤ totalTo h (λ i. listAnswer k n 1 points order (faceNormals k i normals) (faceOffsets i offsets) list .visits)
-    visits-at-most-the-faces = rw (e .answered) (list-visits-le-faces k n h points order normals offsets list)
+        : a .visits ≤ totalTo (f .h) (λ i. listAnswer s o (faceAlone (s .k) f i) list .visits)
+    visits-at-most-the-faces = rw (e .answered) (list-visits-le-faces s o f list)
 
     -- "Where all faces are square, visits are at most h times S(n, k)."
-    pub visits-at-most-hS : ((i : ℕ) → i < h → isSquare (region k h normals offsets) i ≡ true) → a .visits ≤ h * S n k
-    visits-at-most-hS squares = rw (e .answered) (list-visits-le-S k n h points order normals offsets list squares)
+    pub visits-at-most-hS : ((i : ℕ) → i < f .h → isSquare (region (s .k) f) i ≡ true) → a .visits ≤ f .h * S (slotsOf s) (s .k)
+    visits-at-most-hS squares = rw (e .answered) (list-visits-le-S s o f list squares)
 
     -- Neither the order's places from n on nor what the buffer held before is read: only whether it has n places, and what it keeps.
-    module _ (q buffer : List ℕ) (slots : take n order ≡ take n q) (rooms : ltb (length list) n ≡ ltb (length buffer) n)
-        {b : Listing} {y : List ℕ} (f : ListedAs k n h points q normals offsets buffer b y) where
+    module _ (q : Order) (buffer : List ℕ) (slots : shelfRun s o ≡ shelfRun s q) (rooms : ltb (length list) (slotsOf s) ≡ ltb (length buffer) (slotsOf s))
+        {b : Listing} {y : List ℕ} (g : ListedAs s q f buffer b y) where
       pub list-reads-n-slots : a ≡ b
-      list-reads-n-slots = e .answered ∙ list-answer-reads k n h points normals offsets order q list buffer slots rooms ∙ sym (f .answered)
+      list-reads-n-slots = e .answered ∙ list-answer-reads s o q f list buffer slots rooms ∙ sym (g .answered)
 
-      pub list-leaves-the-same : drop n list ≡ drop n buffer → a .code ≡ 0 → x ≡ y
+      pub list-leaves-the-same : drop (slotsOf s) list ≡ drop (slotsOf s) buffer → a .code ≡ 0 → x ≡ y
       list-leaves-the-same later done =
-          e .written ∙ list-after-reads k n h points normals offsets order q list buffer slots rooms later (sym code ∙ done) ∙ sym (f .written)
+          e .written ∙ list-after-reads s o q f list buffer slots rooms later (sym code ∙ done) ∙ sym (g .written)

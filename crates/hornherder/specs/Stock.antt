@@ -4,8 +4,9 @@ use mathlib.Core.Bool.{Bool, true, false, cond}
 use mathlib.Core.List.{List, [], _∷_, _++_}
 use Prim.Native.Nat.{ℕ}
 use lib.ListN.{length}
-use lib.IntN.{ℤ}
 use lib.Dec.{ltb}
+use Rattle.terms.specs.Lent.{Stock, Order}
+use Rattle.terms.specs.Points.{slotsOf}
 use Rattle.terms.specs.Refusals.{Refusal, firstOf, pointsRefusals, coordinateRefusals, buildRefusals}
 
 -- 4: the room is for fewer than n.
@@ -13,16 +14,16 @@ abbrev pub shortRefusals : ℕ → ℕ → List Refusal
 shortRefusals n room = record { number = 4; holds = ltb room n } ∷ []
 
 -- 1 to 5, for the room of an order and of a list buffer.
-abbrev pub stockRefusals : ℕ → ℕ → List ℤ → ℕ → ℕ → List Refusal
-stockRefusals k n points slots places =
-    pointsRefusals k n points ++ shortRefusals n slots ++ shortRefusals n places ++ coordinateRefusals points
+abbrev pub stockRefusals : Stock → ℕ → ℕ → List Refusal
+stockRefusals s slots places =
+    pointsRefusals s ++ shortRefusals (slotsOf s) slots ++ shortRefusals (slotsOf s) places ++ coordinateRefusals (s .points)
 
 -- The room of one buffer, asked twice, is asked once.
 once : (t : Bool) (c : ℕ) → cond t 4 (cond t 4 c) ≡ cond t 4 c
 once true c = refl
 once false c = refl
 
-pub stock-once : (k n : ℕ) (points : List ℤ) (order : List ℕ)
-    → firstOf (stockRefusals k n points (length order) (length order)) ≡ firstOf (buildRefusals k n points order)
+pub stock-once : (s : Stock) (o : Order)
+    → firstOf (stockRefusals s (length (o .slots)) (length (o .slots))) ≡ firstOf (buildRefusals s o)
 unfolding firstOf
-stock-once k n points order = rw (once (ltb (length order) n) _)
+stock-once s o = rw (once (ltb (length (o .slots)) (slotsOf s)) _)

@@ -15,6 +15,7 @@ ghost use mathlib.Core.Path.{_≡_};
 ghost use mathlib.Core.List.{_++_};
 ghost use Prim.Native.Nat.{_≤_};
 ghost use lib.ListN.{length};
+ghost use Rattle.terms.specs.Lent.{stock, orderOf, faces};
 ghost use Rattle.terms.specs.Refusals.{faceRefusals, treeRefusals, placeRefusals};
 ghost use Rattle.terms.specs.Calls.{Built, checkAnswer, ListedAs, placeAnswer};
 ghost use Rattle.theory.specs.Tested.{TestedPoints};
@@ -24,7 +25,7 @@ ghost use Rattle.hornherder.specs.Stock.{stockRefusals};
 // Arranges the first n places of the order as the tree of the n points. Returns 0, or the number of a refusal, which writes nothing.
 #[no_mangle]
 pub extern "C" fn hornherder_build(k: usize, n: usize, points: &[i32], order: &mut [u32]) -> u32
-    ensures { λ r. ⌜ Built k n (now (points .entry)) (now (order .entry)) r (now (order .exit)) ⌝ }
+    ensures { λ r. ⌜ Built (stock k n (now (points .entry))) (orderOf (now (order .entry))) r (orderOf (now (order .exit))) ⌝ }
 {
     let slots = order.len();
     let code = stock_refusal(k, n, points, slots, slots);
@@ -38,7 +39,7 @@ pub extern "C" fn hornherder_build(k: usize, n: usize, points: &[i32], order: &m
 // Whether the first n slots are the tree of the n points: 0 if they are, else the number of a refusal.
 #[no_mangle]
 pub extern "C" fn hornherder_check(k: usize, n: usize, points: &[i32], order: &[u32]) -> u32
-    ensures { λ r. ⌜ r ≡ checkAnswer k n (now (points .entry)) (now (order .entry)) ⌝ }
+    ensures { λ r. ⌜ r ≡ checkAnswer (stock k n (now (points .entry))) (orderOf (now (order .entry))) ⌝ }
 {
     let slots = order.len();
     let code = stock_refusal(k, n, points, slots, slots);
@@ -61,8 +62,8 @@ pub extern "C" fn hornherder_list(
     offsets: &[i64],
     list: &mut [u32],
 ) -> Listing
-    ensures { λ r. ⌜ ListedAs k n h (now (points .entry)) (now (order .entry)) (now (normals .entry)) (now (offsets .entry)) (now (list .entry))
-        r (now (list .exit)) ⌝ }
+    ensures { λ r. ⌜ ListedAs (stock k n (now (points .entry))) (orderOf (now (order .entry))) (faces h (now (normals .entry)) (now (offsets .entry)))
+        (now (list .entry)) r (now (list .exit)) ⌝ }
 {
     let places = list.len();
     let code = list_refusal(k, n, h, points, order, normals, offsets, places);
@@ -92,7 +93,7 @@ pub extern "C" fn hornherder_place(
     normals: &[i32],
     offsets: &[i64],
 ) -> Placing
-    ensures { λ r. ⌜ r ≡ placeAnswer k h (now (point .entry)) (now (normals .entry)) (now (offsets .entry)) ⌝ }
+    ensures { λ r. ⌜ r ≡ placeAnswer k (now (point .entry)) (faces h (now (normals .entry)) (now (offsets .entry))) ⌝ }
 {
     let code = place_refusal(k, h, point, normals, offsets);
     if code != 0 {
@@ -109,9 +110,9 @@ pub extern "C" fn hornherder_place(
 
 // 9 where the first n slots are not the tree of the points, or 0.
 fn tree_refusal(k: usize, n: usize, points: &[i32], order: &[u32]) -> u32
-    requires { ⌜ TestedPoints k n (now points) ⌝ }
+    requires { ⌜ TestedPoints (stock k n (now points)) ⌝ }
     requires { ⌜ n ≤ length (now order) ⌝ }
-    ensures { λ r. ⌜ First (treeRefusals k n (now (points .entry)) (now (order .entry))) r ⌝ }
+    ensures { λ r. ⌜ First (treeRefusals (stock k n (now (points .entry))) (orderOf (now (order .entry)))) r ⌝ }
 {
     if check(k, n, points, &order[0..n]) {
         return 0;
@@ -130,7 +131,7 @@ fn list_refusal(
     offsets: &[i64],
     places: usize,
 ) -> u32
-    ensures { λ r. ⌜ First (stockRefusals k n (now (points .entry)) (length (now (order .entry))) places ++ faceRefusals k h (now (normals .entry)) (now (offsets .entry)) ++ treeRefusals k n (now (points .entry)) (now (order .entry))) r ⌝ }
+    ensures { λ r. ⌜ First (stockRefusals (stock k n (now (points .entry))) (length (now (order .entry))) places ++ faceRefusals k (faces h (now (normals .entry)) (now (offsets .entry))) ++ treeRefusals (stock k n (now (points .entry))) (orderOf (now (order .entry)))) r ⌝ }
 {
     let slots = order.len();
     let stock = stock_refusal(k, n, points, slots, places);
@@ -146,7 +147,7 @@ fn list_refusal(
 
 // The first of 1, 3 and 5 to 8 that holds of the one-point test's arguments, or 0.
 fn place_refusal(k: usize, h: usize, point: &[i32], normals: &[i32], offsets: &[i64]) -> u32
-    ensures { λ r. ⌜ First (placeRefusals k h (now (point .entry)) (now (normals .entry)) (now (offsets .entry))) r ⌝ }
+    ensures { λ r. ⌜ First (placeRefusals k (now (point .entry)) (faces h (now (normals .entry)) (now (offsets .entry)))) r ⌝ }
 {
     let code = point_refusal(k, point);
     if code != 0 {

@@ -5,6 +5,7 @@ ghost use mathlib.Core.Bool.{_&&_};
 ghost use mathlib.Core.List.{_++_};
 ghost use Prim.Native.Nat.{_≤_};
 ghost use lib.Dec.{leb};
+ghost use Rattle.terms.specs.Lent.{stock, faces};
 ghost use Rattle.terms.specs.Points.{within};
 ghost use Rattle.terms.specs.Refusals.{dimensionRefusals, lengthRefusals, coordinateRefusals, faceRefusals};
 ghost use Rattle.hornherder.specs.First.{First};
@@ -68,7 +69,7 @@ fn is_dimension(k: usize) -> bool
 
 // The first of 1 to 5 that holds of the points and of the room lent for n numbers, or 0.
 pub fn stock_refusal(k: usize, n: usize, points: &[i32], slots: usize, places: usize) -> u32
-    ensures { λ r. ⌜ First (stockRefusals k n (now (points .entry)) slots places) r ⌝ }
+    ensures { λ r. ⌜ First (stockRefusals (stock k n (now (points .entry))) slots places) r ⌝ }
 {
     if !is_dimension(k) {
         return 1;
@@ -110,7 +111,7 @@ pub fn point_refusal(k: usize, point: &[i32]) -> u32
 // The first of 6 to 8 that holds of the faces, or 0.
 pub fn face_refusal(k: usize, h: usize, normals: &[i32], offsets: &[i64]) -> u32
     requires { ⌜ k ≤ 4 ⌝ }
-    ensures { λ r. ⌜ First (faceRefusals k h (now (normals .entry)) (now (offsets .entry))) r ⌝ }
+    ensures { λ r. ⌜ First (faceRefusals k (faces h (now (normals .entry)) (now (offsets .entry)))) r ⌝ }
 {
     if 32 < h {
         return 6;

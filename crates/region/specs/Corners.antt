@@ -11,8 +11,8 @@ use Rattle.whole.specs.IndexedSum.{sumTo, sum-same}
 use Rattle.terms.specs.Points.{lone}
 use Rattle.terms.specs.Region.{bySign}
 use Rattle.theory.specs.Flags.{clash}
-use Rattle.theory.specs.Tested.{Between}
-use Rattle.region.specs.Ranges.{Coordinates, products}
+use Rattle.theory.specs.Tested.{Between, Coordinates}
+use Rattle.region.specs.Ranges.{products}
 
 -- In each dimension the first row where the component is 0 or more, else the second.
 abbrev pub corner : List ℤ → ℕ → (ℕ → ℤ) → (ℕ → ℤ) → ℕ → ℤ

@@ -8,10 +8,11 @@ use native.Mathlib.Omega.{arith}
 use lib.ListN.{length, getD}
 use lib.IntN.{ℤ, pos, _*ℤ_}
 use Rattle.whole.specs.IndexedSum.{sum-same}
+use borrow.Author.Tests.{lt-ltb}
+use Rattle.terms.specs.Lent.{Stock}
 use Rattle.terms.specs.Points.{lone, coord}
 use Rattle.terms.specs.Region.{Region, aboveAt, above}
-use Rattle.theory.specs.Tested.{TestedPoints}
-use Rattle.region.specs.Ranges.{Coordinates}
+use Rattle.theory.specs.Tested.{Coordinates, TestedPoints}
 
 -- The lent points have a point p of k coordinates, in range.
 pub record HasPoint (k : ℕ) (points : List ℤ) (p : ℕ) : Type 0 where
@@ -20,12 +21,11 @@ pub record HasPoint (k : ℕ) (points : List ℤ) (p : ℕ) : Type 0 where
   pub ranges : Coordinates k (coord k points p)
 
 -- Each number of the tested points has its point.
-pub has-point : {k m : ℕ} {points : List ℤ} {p : ℕ} → TestedPoints k m points → p < m → HasPoint k points p
-has-point {k} {m} {points} {p} t l =
-    let more : suc p * k ≤ m * k = mul-le-mul l (omega arith) in
-    let size : length points ≡ k * m = t .size in
-    let room : p * k + k ≤ length points = omega arith in
-    record { few = t .few; room = room; ranges = record { ranges = λ d n. t .ranges (p * k + d) (omega arith) } }
+pub has-point : {s : Stock} {p : ℕ} → TestedPoints s → p < s .n → HasPoint (s .k) (s .points) p
+has-point {s} {p} t l =
+    let more : suc p * s .k ≤ s .n * s .k = mul-le-mul l (omega arith) in
+    let size : length (s .points) ≡ s .k * s .n = t .size in
+    record { few = t .few; room = omega arith; ranges = t .each p (lt-ltb p (s .n) l) }
 
 -- A point that is lent alone is point 0.
 pub lone-coord : (k : ℕ) (point : List ℤ) → coord k point 0 ≡ lone point

@@ -12,13 +12,10 @@ use Rattle.whole.specs.Parts.{ints, abs-parts}
 use Rattle.whole.specs.Magnitudes.{abs-mul}
 use Rattle.whole.specs.Fits.{fits-abs-le}
 use Rattle.whole.specs.IndexedSum.{sumTo, sum-abs}
+use Rattle.terms.specs.Lent.{Faces}
 use Rattle.terms.specs.Box.{Box, replaced, leftBox, rightBox}
 use Rattle.theory.specs.BoxLaws.{replaced-by}
-use Rattle.theory.specs.Tested.{Between, TestedFaces}
-
--- The first k coordinates of a point are in range.
-pub record Coordinates (k : ℕ) (x : ℕ → ℤ) : Type 0 where
-  pub ranges : (d : ℕ) → d < k → Between (negsuc 32767) (x d) (pos 32767)
+use Rattle.theory.specs.Tested.{Between, Coordinates, TestedFaces}
 
 -- The first k coordinates of both rows of a box are in range.
 pub record BoxRanges (k : ℕ) (b : Box) : Type 0 where
@@ -45,22 +42,22 @@ pub record Components (k at : ℕ) (normals : List ℤ) : Type 0 where
   pub ranges : (d : ℕ) → d < k → Between (negsuc 32766) (getD normals (at + d) (pos 0)) (pos 32767)
 
 -- Tested faces of at most four dimensions.
-pub record Faces (k h : ℕ) (normals offsets : List ℤ) : Type 0 where
+pub record KnownFaces (k : ℕ) (f : Faces) : Type 0 where
   pub few : k ≤ 4
-  pub tested : TestedFaces k h normals offsets
+  pub tested : TestedFaces k f
 
 -- There is a face i.
-pub record HasFace (k h : ℕ) (normals offsets : List ℤ) (i : ℕ) : Type 0 where
-  pub faces : Faces k h normals offsets
-  pub known : i < h
+pub record HasFace (k : ℕ) (f : Faces) (i : ℕ) : Type 0 where
+  pub all : KnownFaces k f
+  pub known : i < f .h
 
 -- Face i's components start at place i * k.
-pub face-components : {k h : ℕ} {normals offsets : List ℤ} {i : ℕ} → HasFace k h normals offsets i → Components k (i * k) normals
-face-components {k} {h} {normals} {i = i} f =
-    let more : suc i * k ≤ h * k = mul-le-mul (f .known) (omega arith) in
-    let size : length normals ≡ k * h = f .faces .tested .normals-size in
-    let room : i * k + k ≤ length normals = omega arith in
-    record { few = f .faces .few; room = room; ranges = λ d m. f .faces .tested .components (i * k + d) (omega arith) }
+pub face-components : {k : ℕ} {f : Faces} {i : ℕ} → HasFace k f i → Components k (i * k) (f .normals)
+face-components {k} {f} {i} w =
+    let more : suc i * k ≤ f .h * k = mul-le-mul (w .known) (omega arith) in
+    let size : length (f .normals) ≡ k * f .h = w .all .tested .normals-size in
+    let room : i * k + k ≤ length (f .normals) = omega arith in
+    record { few = w .all .few; room = room; ranges = λ d m. w .all .tested .components (i * k + d) (omega arith) }
 
 -- The product of a component and a coordinate.
 abbrev pub products : List ℤ → ℕ → (ℕ → ℤ) → ℕ → ℤ

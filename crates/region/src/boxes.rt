@@ -6,10 +6,12 @@ ghost use mathlib.Core.Path.{_≡_};
 ghost use Prim.Native.Nat.{_<_};
 ghost use lib.ListN.{set};
 ghost use Rattle.whole.specs.IndexedSum.{sumTo};
+ghost use Rattle.terms.specs.Lent.{faces};
 ghost use Rattle.terms.specs.Points.{lone};
 ghost use Rattle.terms.specs.Box.{boxOf, leftBox, rightBox};
 ghost use Rattle.terms.specs.Region.{region, bySign, whollyAbove, whollyBelow};
-ghost use Rattle.region.specs.Ranges.{Coordinates, BoxRanges, Components, HasFace, products};
+ghost use Rattle.theory.specs.Tested.{Coordinates};
+ghost use Rattle.region.specs.Ranges.{BoxRanges, Components, HasFace, products};
 ghost use Rattle.region.specs.Corners.{Corner, corner};
 
 // The coordinate that the sign of a component chooses: the first where it is 0 or more, else the second.
@@ -52,9 +54,9 @@ pub fn wholly_above(
     i: usize,
     rows: CornerRows,
 ) -> bool
-    requires { ⌜ HasFace k h (now normals) (now offsets) i ⌝ }
+    requires { ⌜ HasFace k (faces h (now normals) (now offsets)) i ⌝ }
     requires { ⌜ BoxRanges k (boxOf rows) ⌝ }
-    ensures { λ r. ⌜ r ≡ whollyAbove (region k h (now (normals .entry)) (now (offsets .entry))) (boxOf rows) i ⌝ }
+    ensures { λ r. ⌜ r ≡ whollyAbove (region k (faces h (now (normals .entry)) (now (offsets .entry)))) (boxOf rows) i ⌝ }
 {
     let low = rows.low;
     let high = rows.high;
@@ -70,9 +72,9 @@ pub fn wholly_below(
     i: usize,
     rows: CornerRows,
 ) -> bool
-    requires { ⌜ HasFace k h (now normals) (now offsets) i ⌝ }
+    requires { ⌜ HasFace k (faces h (now normals) (now offsets)) i ⌝ }
     requires { ⌜ BoxRanges k (boxOf rows) ⌝ }
-    ensures { λ r. ⌜ r ≡ whollyBelow (region k h (now (normals .entry)) (now (offsets .entry))) (boxOf rows) i ⌝ }
+    ensures { λ r. ⌜ r ≡ whollyBelow (region k (faces h (now (normals .entry)) (now (offsets .entry)))) (boxOf rows) i ⌝ }
 {
     let low = rows.low;
     let high = rows.high;

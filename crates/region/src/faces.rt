@@ -3,10 +3,12 @@ use crate::points::point_at;
 ghost use mathlib.Core.Path.{_≡_};
 ghost use Prim.Native.Nat.{ℕ};
 ghost use Rattle.whole.specs.IndexedSum.{sumTo};
+ghost use Rattle.terms.specs.Lent.{faces};
 ghost use Rattle.terms.specs.Points.{lone, coord};
 ghost use Rattle.terms.specs.Region.{Region, region, aboveAt, inside};
 ghost use Rattle.terms.specs.Region as words;
-ghost use Rattle.region.specs.Ranges.{Coordinates, Components, Faces, HasFace, products};
+ghost use Rattle.theory.specs.Tested.{Coordinates};
+ghost use Rattle.region.specs.Ranges.{Components, KnownFaces, HasFace, products};
 ghost use Rattle.region.specs.Points.{HasPoint};
 
 // The sum of the products of k components, from a place on, and a point's coordinates. The loop has four turns for every k, so that the
@@ -41,9 +43,9 @@ pub fn point_above(
     i: usize,
     x: [i32; 4],
 ) -> bool
-    requires { ⌜ HasFace k h (now normals) (now offsets) i ⌝ }
+    requires { ⌜ HasFace k (faces h (now normals) (now offsets)) i ⌝ }
     requires { ⌜ Coordinates k (lone x) ⌝ }
-    ensures { λ r. ⌜ r ≡ words.above (region k h (now (normals .entry)) (now (offsets .entry))) i (lone x) ⌝ }
+    ensures { λ r. ⌜ r ≡ words.above (region k (faces h (now (normals .entry)) (now (offsets .entry)))) i (lone x) ⌝ }
 {
     above(sum(normals, i * k, x, k), offsets[i])
 }
@@ -57,9 +59,9 @@ pub fn inside_all(
     offsets: &[i64],
     p: usize,
 ) -> bool
-    requires { ⌜ Faces k h (now normals) (now offsets) ⌝ }
+    requires { ⌜ KnownFaces k (faces h (now normals) (now offsets)) ⌝ }
     requires { ⌜ HasPoint k (now points) p ⌝ }
-    ensures { λ r. ⌜ r ≡ inside (region k h (now (normals .entry)) (now (offsets .entry))) (coord k (now (points .entry)) p) ⌝ }
+    ensures { λ r. ⌜ r ≡ inside (region k (faces h (now (normals .entry)) (now (offsets .entry)))) (coord k (now (points .entry)) p) ⌝ }
 {
     let x = point_at(points, k, p);
     for i in 0..h {

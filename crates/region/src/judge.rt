@@ -4,9 +4,10 @@ use crate::boxes::wholly_below;
 use terms::CornerRows;
 ghost use mathlib.Core.Path.{_≡_};
 ghost use lib.ListN.{length};
+ghost use Rattle.terms.specs.Lent.{faces};
 ghost use Rattle.terms.specs.Box.{boxOf};
 ghost use Rattle.terms.specs.Region.{region};
-ghost use Rattle.region.specs.Ranges.{BoxRanges, Faces};
+ghost use Rattle.region.specs.Ranges.{BoxRanges, KnownFaces};
 ghost use Rattle.region.specs.Live.{Lives};
 ghost use Rattle.region.specs.Judged.{Judged};
 
@@ -28,11 +29,11 @@ pub fn judge(
     count: usize,
     next: &mut [u8; 32],
 ) -> Judgement
-    requires { ⌜ Faces k h (now normals) (now offsets) ⌝ }
+    requires { ⌜ KnownFaces k (faces h (now normals) (now offsets)) ⌝ }
     requires { ⌜ BoxRanges k (boxOf rows) ⌝ }
-    requires { ⌜ Lives (region k h (now normals) (now offsets)) (boxOf rows) (now live) count ⌝ }
+    requires { ⌜ Lives (region k (faces h (now normals) (now offsets))) (boxOf rows) (now live) count ⌝ }
     requires { ⌜ length (now next) ≡ 32 ⌝ }
-    ensures { λ r. ⌜ Judged (region k h (now (normals .entry)) (now (offsets .entry))) (boxOf rows) (now (live .entry)) count
+    ensures { λ r. ⌜ Judged (region k (faces h (now (normals .entry)) (now (offsets .entry)))) (boxOf rows) (now (live .entry)) count
         (r .below) (now (next .exit)) (r .left) ⌝ }
 {
     let mut left: usize = 0;

@@ -3,9 +3,10 @@
 use crate::faces::point_above;
 use crate::points::point_at;
 ghost use Prim.Native.Nat.{_≤_};
+ghost use Rattle.terms.specs.Lent.{faces};
 ghost use Rattle.terms.specs.Points.{coord};
 ghost use Rattle.terms.specs.Region.{region};
-ghost use Rattle.region.specs.Ranges.{Faces};
+ghost use Rattle.region.specs.Ranges.{KnownFaces};
 ghost use Rattle.region.specs.Points.{HasPoint};
 ghost use Rattle.region.specs.Live.{LiveFaces, AllLive, InsideByLive};
 
@@ -32,10 +33,10 @@ pub fn inside_live(
     live: &[u8; 32],
     count: usize,
 ) -> bool
-    requires { ⌜ Faces k h (now normals) (now offsets) ⌝ }
+    requires { ⌜ KnownFaces k (faces h (now normals) (now offsets)) ⌝ }
     requires { ⌜ HasPoint k (now points) p ⌝ }
     requires { ⌜ LiveFaces h (now live) count ⌝ }
-    ensures { λ r. ⌜ InsideByLive (region k h (now (normals .entry)) (now (offsets .entry))) (now (live .entry)) count (coord k (now (points .entry)) p) r ⌝ }
+    ensures { λ r. ⌜ InsideByLive (region k (faces h (now (normals .entry)) (now (offsets .entry)))) (now (live .entry)) count (coord k (now (points .entry)) p) r ⌝ }
 {
     let x = point_at(points, k, p);
     for t in 0..count {

@@ -8,6 +8,8 @@ use native.Mathlib.Nat.{mul-le-mul}
 use lib.ListN.{length, take}
 use lib.IntN.{ℤ}
 use Rattle.terms.specs.declared.Listing.{Listing}
+use Rattle.terms.specs.Lent.{Stock, Order, Faces, stock, faces}
+use Rattle.terms.specs.Points.{slotsOf}
 use Rattle.terms.specs.Calls.{Built, listAnswer, listAfter}
 use Rattle.theory.specs.Flags.{not-true, not-false}
 use Rattle.text.specs.Answer.{refusedText}
@@ -15,26 +17,26 @@ use Rattle.text.specs.TextReading.{ReadsText}
 use Rattle.text.specs.Printing.{Printed}
 use Rattle.shelf.specs.Answer.{doneText, Listed, list-refused, list-done, Shelved, build-refused, build-done, Answer, not-the-text, the-text, Writes}
 
-module _ {k n h : ℕ} {points : List ℤ} {order : List ℕ} {normals offsets : List ℤ} (list : List ℕ) (room : n ≤ length list) {answer : Listing}
-    (answers : answer ≡ listAnswer k n h points order normals offsets list) {out : List ℕ} {r : ℕ} where
+module _ {s : Stock} {o : Order} {f : Faces} (list : List ℕ) (room : slotsOf s ≤ length list) {answer : Listing}
+    (answers : answer ≡ listAnswer s o f list) {out : List ℕ} {r : ℕ} where
   -- The list call refused.
-  pub listing-refused : answer .code ≢ 0 → Printed out r (refusedText (answer .code)) → Writes (Listed k n h points order normals offsets) out r
+  pub listing-refused : answer .code ≢ 0 → Printed out r (refusedText (answer .code)) → Writes (Listed s o f) out r
   listing-refused m p = record { inside = p .inside; kind = list-refused list room (rw (← answers) m) (rw (← answers) (p .bytes)) }
 
   -- The list call is done.
-  pub listing-done : {after : List ℕ} → after ≡ listAfter k n h points order normals offsets list → answer .code ≡ 0
-      → Printed out r (doneText n order answer after) → Writes (Listed k n h points order normals offsets) out r
+  pub listing-done : {after : List ℕ} → after ≡ listAfter s o f list → answer .code ≡ 0 → Printed out r (doneText s o answer after)
+      → Writes (Listed s o f) out r
   listing-done a z p = record { inside = p .inside; kind = list-done list room (rw (← answers) z) (rw (← answers, ← a) (p .bytes)) }
 
-module _ {k n h : ℕ} {points normals offsets : List ℤ} {order after : List ℕ} {number : ℕ} (room : n ≤ length order)
-    (built : Built k n points order number after) {out : List ℕ} {r : ℕ} where
+module _ {s : Stock} {f : Faces} {o after : Order} {number : ℕ} (room : slotsOf s ≤ length (o .slots)) (built : Built s o number after)
+    {out : List ℕ} {r : ℕ} where
   -- The build call refused.
-  pub building-refused : number ≢ 0 → Printed out r (refusedText number) → Writes (Shelved k n h points normals offsets) out r
-  building-refused m p = record { inside = p .inside; kind = build-refused order after number room built m (p .bytes) }
+  pub building-refused : number ≢ 0 → Printed out r (refusedText number) → Writes (Shelved s f) out r
+  building-refused m p = record { inside = p .inside; kind = build-refused o after number room built m (p .bytes) }
 
   -- The build call is done.
-  pub building-done : number ≡ 0 → Writes (Listed k n h points after normals offsets) out r → Writes (Shelved k n h points normals offsets) out r
-  building-done z w = record { inside = w .inside; kind = build-done order after room (rw z at built) (w .kind) }
+  pub building-done : number ≡ 0 → Writes (Listed s after f) out r → Writes (Shelved s f) out r
+  building-done z w = record { inside = w .inside; kind = build-done o after room (rw z at built) (w .kind) }
 
 module _ {text : List ℕ} {points normals offsets : List ℤ} {ok : Bool} {k n h : ℕ} (reads : ReadsText text points normals offsets ok k n h)
     {out : List ℕ} {r : ℕ} where
@@ -43,7 +45,7 @@ module _ {text : List ℕ} {points normals offsets : List ℤ} {ok : Bool} {k n 
   answer-ten m p = record { inside = p .inside; kind = not-the-text (reads .silent (not-true ok m)) (p .bytes) }
 
   -- The text says numbers.
-  pub answer-shelved : not ok ≡ false → Writes (Shelved k n h (take (k * n) points) (take (k * h) normals) (take h offsets)) out r → Writes (Answer text) out r
+  pub answer-shelved : not ok ≡ false → Writes (Shelved (stock k n (take (k * n) points)) (faces h (take (k * h) normals) (take h offsets))) out r → Writes (Answer text) out r
   answer-shelved y w = record { inside = w .inside; kind = the-text (reads .says (not-false ok y)) (w .kind) }
 
 -- The sizes of what a text says, for which the buffers have room.

@@ -6,11 +6,12 @@ use Prim.Native.Nat.{ℕ, zero, suc, _≤_}
 use native.Mathlib.Omega.{arith}
 use lib.ListN.{length, take}
 use lib.Seq.{length-take-le}
-use lib.IntN.{ℤ}
 use lib.Dec.{ltb}
 use borrow.Author.Tests.{ltb-true}
 use Rattle.terms.specs.declared.Listing.{Listing}
-use Rattle.terms.specs.Points.{coord}
+use Rattle.terms.specs.Lent.{Stock, Order, Faces}
+use Rattle.terms.specs.Points.{pointOf, slotsOf}
+use Rattle.terms.specs.Tree.{shelfRun}
 use Rattle.terms.specs.Region.{region}
 use Rattle.terms.specs.Lists.{places}
 use Rattle.terms.specs.Calls.{ifDone, Built, listCode, listAnswer, listAfter}
@@ -26,46 +27,43 @@ rooms : {n : ℕ} (xs ys : List ℕ) → n ≤ length xs → n ≤ length ys →
 rooms {n} xs ys a b = same-test (λ t. absurd (omega (arith, ltb-true (length xs) n t))) (λ t. absurd (omega (arith, ltb-true (length ys) n t)))
 
 -- The list call's answer has the number that it returns.
-code-is : (k n h : ℕ) (points : List ℤ) (order : List ℕ) (normals offsets : List ℤ) (list : List ℕ)
-    → listAnswer k n h points order normals offsets list .code ≡ listCode k n h points order normals offsets list
+code-is : (s : Stock) (o : Order) (f : Faces) (list : List ℕ) → listAnswer s o f list .code ≡ listCode s o f list
 unfolding listAnswer
-code-is k n h points order normals offsets list = go (listCode k n h points order normals offsets list) _ refl
+code-is s o f list = go (listCode s o f list) _ refl
   where
     go : (c : ℕ) (done : Listing) → done .code ≡ 0 → ifDone c done (record { code = c; inside = 0; outside = 0; visits = 0 }) .code ≡ c
     go zero done e = e
     go (suc c) done e = refl
 
 -- Buffers with room for n numbers get one number from the build call.
-number-one : {k n : ℕ} {points : List ℤ} {order slots after later : List ℕ} {c d : ℕ} → n ≤ length order → n ≤ length slots → Built k n points order c after
-    → Built k n points slots d later → c ≡ d
-number-one {k} {n} {points} {order} {slots} a b v w = v .answered ∙ build-reads k n points order slots (rooms order slots a b) ∙ sym (w .answered)
+number-one : {s : Stock} {o q after later : Order} {c d : ℕ} → slotsOf s ≤ length (o .slots) → slotsOf s ≤ length (q .slots) → Built s o c after
+    → Built s q d later → c ≡ d
+number-one {s} {o} {q} a b v w = v .answered ∙ build-reads s o q (rooms (o .slots) (q .slots) a b) ∙ sym (w .answered)
 
-module _ {k n h : ℕ} {points normals offsets : List ℤ} where
+module _ {s : Stock} {f : Faces} where
   -- Orders that agree in their first n slots are listed alike.
-  listed-one : {order slots p q : List ℕ} → take n order ≡ take n slots → Listed k n h points order normals offsets p
-      → Listed k n h points slots normals offsets q → p ≡ q
-  listed-one {order} {slots} {p} {q} s v w = go v w
+  listed-one : {o u : Order} {p q : List ℕ} → shelfRun s o ≡ shelfRun s u → Listed s o f p → Listed s u f q → p ≡ q
+  listed-one {o} {u} {p} {q} e v w = go v w
     where
-      same : (l m : List ℕ) → n ≤ length l → n ≤ length m
-          → listAnswer k n h points order normals offsets l ≡ listAnswer k n h points slots normals offsets m
-      same l m a b = list-answer-reads k n h points normals offsets order slots l m s (rooms l m a b)
+      same : (l m : List ℕ) → slotsOf s ≤ length l → slotsOf s ≤ length m → listAnswer s o f l ≡ listAnswer s u f m
+      same l m a b = list-answer-reads s o u f l m e (rooms l m a b)
 
-      first : (o l : List ℕ) → listAnswer k n h points o normals offsets l .code ≡ 0
-          → take n (listAfter k n h points o normals offsets l) ≡ places (region k h normals offsets) (coord k points) (take n o)
-      first o l z = list-first k n h points o normals offsets l (sym (code-is k n h points o normals offsets l) ∙ z)
+      first : (o : Order) (l : List ℕ) → listAnswer s o f l .code ≡ 0
+          → take (slotsOf s) (listAfter s o f l) ≡ places (region (s .k) f) (pointOf s) (shelfRun s o)
+      first o l z = list-first s o f l (sym (code-is s o f l) ∙ z)
 
-      go : Listed k n h points order normals offsets p → Listed k n h points slots normals offsets q → p ≡ q
-      go (list-refused l a r e) (list-refused m b t f) = e ∙ rw (same l m a b) (sym f)
-      go (list-refused l a r e) (list-done m b t f) = absurd (r (rw (same l m a b) t))
-      go (list-done l a r e) (list-refused m b t f) = absurd (t (rw (← same l m a b) r))
-      go (list-done l a r e) (list-done m b t f) = e ∙ rw (first order l r, same l m a b, s) (sym (rw (first slots m t) at f))
+      go : Listed s o f p → Listed s u f q → p ≡ q
+      go (list-refused l a r x) (list-refused m b t y) = x ∙ rw (same l m a b) (sym y)
+      go (list-refused l a r x) (list-done m b t y) = absurd (r (rw (same l m a b) t))
+      go (list-done l a r x) (list-refused m b t y) = absurd (t (rw (← same l m a b) r))
+      go (list-done l a r x) (list-done m b t y) = x ∙ rw (first o l r, same l m a b, e) (sym (rw (first u m t) at y))
 
   -- The numbers of a text leave one output.
-  shelved-one : {p q : List ℕ} → Shelved k n h points normals offsets p → Shelved k n h points normals offsets q → p ≡ q
-  shelved-one (build-refused o x c a v m e) (build-refused u y d b w t f) = e ∙ rw (number-one a b v w) (sym f)
+  shelved-one : {p q : List ℕ} → Shelved s f p → Shelved s f q → p ≡ q
+  shelved-one (build-refused o x c a v m e) (build-refused u y d b w t g) = e ∙ rw (number-one a b v w) (sym g)
   shelved-one (build-refused o x c a v m e) (build-done u y b w z) = absurd (m (number-one a b v w))
-  shelved-one (build-done o x a v l) (build-refused u y d b w t f) = absurd (t (sym (number-one a b v w)))
-  shelved-one (build-done o x a v l) (build-done u y b w z) = listed-one (one-shelf k n points x y (v .arranged refl) (w .arranged refl)) l z
+  shelved-one (build-done o x a v l) (build-refused u y d b w t g) = absurd (t (sym (number-one a b v w)))
+  shelved-one (build-done o x a v l) (build-done u y b w z) = listed-one (one-shelf s x y (v .arranged refl) (w .arranged refl)) l z
 
 -- "A contract determines its answer": the output is determined by the text.
 pub one-answer : {text p q : List ℕ} → Answer text p → Answer text q → p ≡ q

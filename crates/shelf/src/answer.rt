@@ -1,6 +1,7 @@
 // What the program answers to a text: it reads the text, builds the shelf, lists it against the region, and writes the answer.
 ghost use Prim.Native.Nat.{_≤_};
 ghost use lib.ListN.{length};
+ghost use Rattle.terms.specs.Lent.{stock, orderOf, faces};
 ghost use Rattle.shelf.specs.Answer.{Listed, Shelved, Answer, Writes};
 use hornherder::hornherder_build;
 use hornherder::hornherder_list;
@@ -48,7 +49,7 @@ fn build_shelf(
 ) -> usize
     requires { ⌜ n ≤ 512 ⌝ }
     requires { ⌜ 16384 ≤ length (now out) ⌝ }
-    ensures { λ r. ⌜ Writes (Shelved k n h (now (points .entry)) (now (normals .entry)) (now (offsets .entry))) (now (out .exit)) r ⌝ }
+    ensures { λ r. ⌜ Writes (Shelved (stock k n (now (points .entry))) (faces h (now (normals .entry)) (now (offsets .entry)))) (now (out .exit)) r ⌝ }
 {
     let mut order = [0u32; 512];
     let number = hornherder_build(k, n, points, &mut order);
@@ -72,7 +73,7 @@ fn list_shelf(
     requires { ⌜ n ≤ 512 ⌝ }
     requires { ⌜ n ≤ length (now order) ⌝ }
     requires { ⌜ 16384 ≤ length (now out) ⌝ }
-    ensures { λ r. ⌜ Writes (Listed k n h (now (points .entry)) (now (order .entry)) (now (normals .entry)) (now (offsets .entry))) (now (out .exit)) r ⌝ }
+    ensures { λ r. ⌜ Writes (Listed (stock k n (now (points .entry))) (orderOf (now (order .entry))) (faces h (now (normals .entry)) (now (offsets .entry)))) (now (out .exit)) r ⌝ }
 {
     let mut list = [0u32; 512];
     let listing = hornherder_list(k, n, h, points, order, normals, offsets, &mut list);

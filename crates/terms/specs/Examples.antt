@@ -5,7 +5,7 @@ use mathlib.Core.Bool.{Bool, true, false}
 use mathlib.Core.List.{List, [], _∷_, map}
 use Prim.Native.Nat.{ℕ, suc}
 use native.Mathlib.Omega.{arith}
-use lib.ListN.{length, getD, take, drop, replicate}
+use lib.ListN.{length, getD, drop, replicate}
 use lib.IntN.{ℤ, pos, negℤ}
 use Rattle.whole.specs.Order.{lesser, greater}
 use Rattle.whole.specs.IndexedSum.{sumTo}
@@ -13,9 +13,10 @@ use Rattle.whole.specs.IndexedTotal.{totalTo}
 use Rattle.terms.specs.declared.Listing.{Listing}
 use Rattle.terms.specs.declared.Placing.{Placing}
 use Rattle.terms.specs.Tests.{count, every, keep, allTo, anyTo, rising}
-use Rattle.terms.specs.Points.{coord}
+use Rattle.terms.specs.Lent.{Stock, Order, Faces, stock, orderOf, faces}
+use Rattle.terms.specs.Points.{coord, pointOf, slotsOf}
 use Rattle.terms.specs.Before.{before}
-use Rattle.terms.specs.Tree.{treeRun, eachOnce, isTree, isShelf}
+use Rattle.terms.specs.Tree.{treeRun, eachOnce, isTree, shelfRun, isShelf}
 use Rattle.terms.specs.Box.{Box, leastFrom, greatestFrom, rootBox, boxes, shelfBoxes}
 use Rattle.terms.specs.Region.{Region, region, reach, aboveAt, inside, isSettled, isOpen}
 use Rattle.terms.specs.Visits.{openSlots, visits}
@@ -27,30 +28,25 @@ use Rattle.terms.specs.Calls.{Built, buildAnswer, checkAnswer, listCode,
 abbrev minus : ℕ → ℤ
 minus n = negℤ (pos n)
 
--- The arguments that tell of a shelf.
+-- The arguments that tell of a shelf: a stock and an order.
 pub record Shelf : Type 0 where
-  pub k : ℕ
-  pub n : ℕ
-  pub points : List ℤ
-  pub order : List ℕ
+  pub lent : Stock
+  pub arranged : Order
 
--- The arguments that tell of a region.
-pub record Faces : Type 0 where
-  pub h : ℕ
-  pub normals : List ℤ
-  pub offsets : List ℤ
+abbrev pub shelf : ℕ → ℕ → List ℤ → List ℕ → Shelf
+shelf k n points slots = record { lent = stock k n points; arranged = orderOf slots }
 
 -- The region of a row's arguments.
 abbrev pub cut : Shelf → Faces → Region
-cut s f = region (s .k) (f .h) (f .normals) (f .offsets)
+cut s f = region (s .lent .k) f
 
--- The first n slots of a row's order.
+-- The slots of a row's shelf.
 abbrev pub slots : Shelf → List ℕ
-slots s = take (s .n) (s .order)
+slots s = shelfRun (s .lent) (s .arranged)
 
 -- The shelf with another order.
 abbrev pub ordered : Shelf → List ℕ → Shelf
-ordered s order = record { k = s .k; n = s .n; points = s .points; order = order }
+ordered s slots = record { lent = s .lent; arranged = orderOf slots }
 
 -- The least and the greatest coordinate of a box, dimension by dimension.
 abbrev pub spans : ℕ → Box → List (List ℤ)
@@ -71,18 +67,17 @@ pub data Row : Type 0 where
 
 -- What it is for a row to hold: the call's definition gives what the row says.
 abbrev pub Holds : Row → Type 0
-Holds (builds s answer after) = Built (s .k) (s .n) (s .points) (s .order) answer after
-Holds (checks s answer) = checkAnswer (s .k) (s .n) (s .points) (s .order) ≡ answer
+Holds (builds s answer after) = Built (s .lent) (s .arranged) answer (orderOf after)
+Holds (checks s answer) = checkAnswer (s .lent) (s .arranged) ≡ answer
 Holds (lists s f list answer after) =
-    (listAnswer (s .k) (s .n) (f .h) (s .points) (s .order) (f .normals) (f .offsets) list ≡ answer)
-    × (listAfter (s .k) (s .n) (f .h) (s .points) (s .order) (f .normals) (f .offsets) list ≡ after)
-Holds (tests k point f answer) = placeAnswer k (f .h) point (f .normals) (f .offsets) ≡ answer
-Holds (opens s f open-slots) = openSlots (cut s f) (coord (s .k) (s .points)) (slots s) ≡ open-slots
-Holds (boxed s slot sides) = spans (s .k) (getD (shelfBoxes (s .k) (coord (s .k) (s .points)) (slots s)) slot (rootBox (coord 0 []) [])) ≡ sides
-Holds (reaches s f face number sum) = reach (cut s f) face (coord (s .k) (s .points) number) ≡ sum
+    (listAnswer (s .lent) (s .arranged) f list ≡ answer) × (listAfter (s .lent) (s .arranged) f list ≡ after)
+Holds (tests k point f answer) = placeAnswer k point f ≡ answer
+Holds (opens s f open-slots) = openSlots (cut s f) (pointOf (s .lent)) (slots s) ≡ open-slots
+Holds (boxed s slot sides) = spans (s .lent .k) (getD (shelfBoxes (s .lent .k) (pointOf (s .lent)) (slots s)) slot (rootBox (coord 0 []) [])) ≡ sides
+Holds (reaches s f face number sum) = reach (cut s f) face (pointOf (s .lent) number) ≡ sum
 Holds (sums n k sum) = S n k ≡ sum
-Holds (attains s f) = visits (cut s f) (coord (s .k) (s .points)) (slots s) ≡ S (s .n) (s .k)
-Holds (squares k f answers) = map (isSquare (region k (f .h) (f .normals) (f .offsets))) (rising 0 (f .h)) ≡ answers
+Holds (attains s f) = visits (cut s f) (pointOf (s .lent)) (slots s) ≡ S (slotsOf (s .lent)) (s .lent .k)
+Holds (squares k f answers) = map (isSquare (region k f)) (rising 0 (f .h)) ≡ answers
 
 -- Every row of a table holds.
 infixr 20 _by_also_
@@ -91,12 +86,12 @@ pub data All : List Row → Type 0 where
   _by_also_ : (r : Row) {rs : List Row} → Holds r → All rs → All (r ∷ rs)
 
 -- A build that is done, from what computes of it.
-built : {k n : ℕ} {points : List ℤ} {order after : List ℕ} → buildAnswer k n points order ≡ 0 → length after ≡ length order
-    → isShelf k n points after ≡ true → drop n after ≡ drop n order → Built k n points order 0 after
+built : {s : Stock} {o after : Order} → buildAnswer s o ≡ 0 → length (after .slots) ≡ length (o .slots)
+    → isShelf s after ≡ true → drop (slotsOf s) (after .slots) ≡ drop (slotsOf s) (o .slots) → Built s o 0 after
 built e l t d = record { answered = sym e; size = l; arranged = λ z. t; later = λ z. d; refused = λ z. absurd (z refl) }
 
 -- A build that is refused, from what computes of it.
-unbuilt : {k n : ℕ} {points : List ℤ} {order : List ℕ} {c : ℕ} → buildAnswer k n points order ≡ suc c → Built k n points order (suc c) order
+unbuilt : {s : Stock} {o : Order} {c : ℕ} → buildAnswer s o ≡ suc c → Built s o (suc c) o
 unbuilt e = record { answered = sym e; size = refl; arranged = λ z. absurd (omega arith); later = λ z. refl; refused = λ z. refl }
 
 -- The answer of a list call that is done.
@@ -115,7 +110,7 @@ answers code inside = record { code = code; inside = inside }
 
 -- Shelf A.
 abbrev shelfA : Shelf
-shelfA = record { k = 2; n = 6; points = pos 1 ∷ pos 5 ∷ pos 4 ∷ pos 2 ∷ pos 4 ∷ pos 8 ∷ pos 7 ∷ pos 1 ∷ pos 6 ∷ pos 6 ∷ pos 2 ∷ pos 2 ∷ []; order = 1 ∷ 5 ∷ 0 ∷ 2 ∷ 3 ∷ 4 ∷ [] }
+shelfA = shelf 2 6 (pos 1 ∷ pos 5 ∷ pos 4 ∷ pos 2 ∷ pos 4 ∷ pos 8 ∷ pos 7 ∷ pos 1 ∷ pos 6 ∷ pos 6 ∷ pos 2 ∷ pos 2 ∷ []) (1 ∷ 5 ∷ 0 ∷ 2 ∷ 3 ∷ 4 ∷ [])
 
 -- Its points with an order that is not arranged.
 abbrev anyA : Shelf
@@ -123,27 +118,27 @@ anyA = ordered shelfA (0 ∷ 0 ∷ 0 ∷ 0 ∷ 0 ∷ 0 ∷ [])
 
 -- The two faces of the program's example.
 abbrev twoFaces : Faces
-twoFaces = record { h = 2; normals = pos 1 ∷ pos 1 ∷ minus 1 ∷ pos 0 ∷ []; offsets = pos 7 ∷ minus 6 ∷ [] }
+twoFaces = faces 2 (pos 1 ∷ pos 1 ∷ minus 1 ∷ pos 0 ∷ []) (pos 7 ∷ minus 6 ∷ [])
 
 -- Face (1, 0), m 5.
 abbrev rightOfFive : Faces
-rightOfFive = record { h = 1; normals = pos 1 ∷ pos 0 ∷ []; offsets = pos 5 ∷ [] }
+rightOfFive = faces 1 (pos 1 ∷ pos 0 ∷ []) (pos 5 ∷ [])
 
 -- Face (1, 0), m 1.
 abbrev rightOfOne : Faces
-rightOfOne = record { h = 1; normals = pos 1 ∷ pos 0 ∷ []; offsets = pos 1 ∷ [] }
+rightOfOne = faces 1 (pos 1 ∷ pos 0 ∷ []) (pos 1 ∷ [])
 
 -- Face (1, 0), m 8.
 abbrev rightOfEight : Faces
-rightOfEight = record { h = 1; normals = pos 1 ∷ pos 0 ∷ []; offsets = pos 8 ∷ [] }
+rightOfEight = faces 1 (pos 1 ∷ pos 0 ∷ []) (pos 8 ∷ [])
 
 -- Face (1, 1), m 6.
 abbrev diagonal : Faces
-diagonal = record { h = 1; normals = pos 1 ∷ pos 1 ∷ []; offsets = pos 6 ∷ [] }
+diagonal = faces 1 (pos 1 ∷ pos 1 ∷ []) (pos 6 ∷ [])
 
 -- No faces.
 abbrev noFaces : Faces
-noFaces = record { h = 0; normals = []; offsets = [] }
+noFaces = faces 0 [] []
 
 -- Example 1: A's order is as printed.
 abbrev pub example-1-build : Row
@@ -195,7 +190,7 @@ example-6-list = lists shelfA noFaces (0 ∷ 0 ∷ 0 ∷ 0 ∷ 0 ∷ 0 ∷ []) (
 
 -- Points 0 and 10 on a line.
 abbrev pair : Shelf
-pair = record { k = 1; n = 2; points = pos 0 ∷ pos 10 ∷ []; order = 0 ∷ 1 ∷ [] }
+pair = shelf 1 2 (pos 0 ∷ pos 10 ∷ []) (0 ∷ 1 ∷ [])
 
 -- The same, not arranged.
 abbrev anyPair : Shelf
@@ -203,7 +198,7 @@ anyPair = ordered pair (7 ∷ 7 ∷ [])
 
 -- Face 1, m 5, on a line.
 abbrev fromFive : Faces
-fromFive = record { h = 1; normals = pos 1 ∷ []; offsets = pos 5 ∷ [] }
+fromFive = faces 1 (pos 1 ∷ []) (pos 5 ∷ [])
 
 -- Example 7: the order is 0 1.
 abbrev pub example-7-build : Row
@@ -219,7 +214,7 @@ example-7-bound = attains pair fromFive
 
 -- Points 3, 3, 3, not arranged.
 abbrev anyTies : Shelf
-anyTies = record { k = 1; n = 3; points = pos 3 ∷ pos 3 ∷ pos 3 ∷ []; order = 2 ∷ 2 ∷ 2 ∷ [] }
+anyTies = shelf 1 3 (pos 3 ∷ pos 3 ∷ pos 3 ∷ []) (2 ∷ 2 ∷ 2 ∷ [])
 
 -- Points 3, 3, 3 in the order of their numbers.
 abbrev ties : Shelf
@@ -243,7 +238,7 @@ example-8-swapped = checks tiesSwapped 9
 
 -- The one point (4, 2).
 abbrev one : Shelf
-one = record { k = 2; n = 1; points = pos 4 ∷ pos 2 ∷ []; order = 0 ∷ [] }
+one = shelf 2 1 (pos 4 ∷ pos 2 ∷ []) (0 ∷ [])
 
 -- Example 9: outside, list 0, no visits.
 abbrev pub example-9-list : Row
@@ -301,7 +296,7 @@ list-keeps-later-places = lists shelfALonger twoFaces (8 ∷ 8 ∷ 8 ∷ 8 ∷ 8
 
 -- Points -5, 3, -4.
 abbrev anyNegatives : Shelf
-anyNegatives = record { k = 1; n = 3; points = minus 5 ∷ pos 3 ∷ minus 4 ∷ []; order = 0 ∷ 0 ∷ 0 ∷ [] }
+anyNegatives = shelf 1 3 (minus 5 ∷ pos 3 ∷ minus 4 ∷ []) (0 ∷ 0 ∷ 0 ∷ [])
 
 -- Negative coordinates come first.
 abbrev pub build-by-value-not-size : Row
@@ -309,7 +304,7 @@ build-by-value-not-size = builds anyNegatives 0 (0 ∷ 2 ∷ 1 ∷ [])
 
 -- Nine points of -1, 0, 1 with ties on every dimension: four levels, k 3.
 abbrev anyTiesInThree : Shelf
-anyTiesInThree = record { k = 3; n = 9; points = pos 0 ∷ pos 1 ∷ pos 0 ∷ pos 0 ∷ pos 1 ∷ pos 1 ∷ minus 1 ∷ minus 1 ∷ pos 1 ∷ pos 0 ∷ pos 1 ∷ pos 1 ∷ minus 1 ∷ minus 1 ∷ pos 0 ∷ pos 0 ∷ minus 1 ∷ minus 1 ∷ pos 1 ∷ pos 1 ∷ pos 1 ∷ minus 1 ∷ pos 1 ∷ pos 0 ∷ pos 0 ∷ pos 1 ∷ pos 1 ∷ []; order = 0 ∷ 0 ∷ 0 ∷ 0 ∷ 0 ∷ 0 ∷ 0 ∷ 0 ∷ 0 ∷ [] }
+anyTiesInThree = shelf 3 9 (pos 0 ∷ pos 1 ∷ pos 0 ∷ pos 0 ∷ pos 1 ∷ pos 1 ∷ minus 1 ∷ minus 1 ∷ pos 1 ∷ pos 0 ∷ pos 1 ∷ pos 1 ∷ minus 1 ∷ minus 1 ∷ pos 0 ∷ pos 0 ∷ minus 1 ∷ minus 1 ∷ pos 1 ∷ pos 1 ∷ pos 1 ∷ minus 1 ∷ pos 1 ∷ pos 0 ∷ pos 0 ∷ pos 1 ∷ pos 1 ∷ []) (0 ∷ 0 ∷ 0 ∷ 0 ∷ 0 ∷ 0 ∷ 0 ∷ 0 ∷ 0 ∷ [])
 
 -- The same, arranged.
 abbrev tiesInThree : Shelf
@@ -321,7 +316,7 @@ build-ties-in-three = builds anyTiesInThree 0 (4 ∷ 2 ∷ 0 ∷ 7 ∷ 1 ∷ 5 �
 
 -- Eight equal points: four levels, k 3.
 abbrev anyEqual : Shelf
-anyEqual = record { k = 3; n = 8; points = pos 4 ∷ minus 4 ∷ pos 4 ∷ pos 4 ∷ minus 4 ∷ pos 4 ∷ pos 4 ∷ minus 4 ∷ pos 4 ∷ pos 4 ∷ minus 4 ∷ pos 4 ∷ pos 4 ∷ minus 4 ∷ pos 4 ∷ pos 4 ∷ minus 4 ∷ pos 4 ∷ pos 4 ∷ minus 4 ∷ pos 4 ∷ pos 4 ∷ minus 4 ∷ pos 4 ∷ []; order = 3 ∷ 3 ∷ 3 ∷ 3 ∷ 3 ∷ 3 ∷ 3 ∷ 3 ∷ [] }
+anyEqual = shelf 3 8 (pos 4 ∷ minus 4 ∷ pos 4 ∷ pos 4 ∷ minus 4 ∷ pos 4 ∷ pos 4 ∷ minus 4 ∷ pos 4 ∷ pos 4 ∷ minus 4 ∷ pos 4 ∷ pos 4 ∷ minus 4 ∷ pos 4 ∷ pos 4 ∷ minus 4 ∷ pos 4 ∷ pos 4 ∷ minus 4 ∷ pos 4 ∷ pos 4 ∷ minus 4 ∷ pos 4 ∷ []) (3 ∷ 3 ∷ 3 ∷ 3 ∷ 3 ∷ 3 ∷ 3 ∷ 3 ∷ [])
 
 -- Equal points stand in the order of their numbers.
 abbrev pub build-equal-points : Row
@@ -329,7 +324,7 @@ build-equal-points = builds anyEqual 0 (0 ∷ 1 ∷ 2 ∷ 3 ∷ 4 ∷ 5 ∷ 6 �
 
 -- Two slanted faces with negative components, and a zero face with m 0.
 abbrev slantedInThree : Faces
-slantedInThree = record { h = 3; normals = pos 5 ∷ pos 0 ∷ minus 4 ∷ pos 2 ∷ minus 2 ∷ minus 3 ∷ pos 0 ∷ pos 0 ∷ pos 0 ∷ []; offsets = minus 4 ∷ minus 5 ∷ pos 0 ∷ [] }
+slantedInThree = faces 3 (pos 5 ∷ pos 0 ∷ minus 4 ∷ pos 2 ∷ minus 2 ∷ minus 3 ∷ pos 0 ∷ pos 0 ∷ pos 0 ∷ []) (minus 4 ∷ minus 5 ∷ pos 0 ∷ [])
 
 -- A slanted region in three dimensions.
 abbrev pub list-ties-in-three : Row
@@ -341,7 +336,7 @@ open-ties-in-three = opens tiesInThree slantedInThree (true ∷ true ∷ true �
 
 -- Eleven points spread around 0: four levels, k 3.
 abbrev anyThree : Shelf
-anyThree = record { k = 3; n = 11; points = minus 2 ∷ minus 15 ∷ minus 19 ∷ pos 17 ∷ minus 1 ∷ pos 7 ∷ pos 4 ∷ pos 13 ∷ pos 2 ∷ minus 12 ∷ minus 8 ∷ minus 3 ∷ pos 8 ∷ minus 20 ∷ minus 6 ∷ pos 19 ∷ pos 9 ∷ minus 19 ∷ minus 14 ∷ minus 15 ∷ pos 11 ∷ pos 6 ∷ minus 19 ∷ pos 12 ∷ pos 20 ∷ pos 7 ∷ pos 2 ∷ minus 17 ∷ minus 7 ∷ minus 18 ∷ pos 17 ∷ pos 3 ∷ minus 9 ∷ []; order = 0 ∷ 0 ∷ 0 ∷ 0 ∷ 0 ∷ 0 ∷ 0 ∷ 0 ∷ 0 ∷ 0 ∷ 0 ∷ [] }
+anyThree = shelf 3 11 (minus 2 ∷ minus 15 ∷ minus 19 ∷ pos 17 ∷ minus 1 ∷ pos 7 ∷ pos 4 ∷ pos 13 ∷ pos 2 ∷ minus 12 ∷ minus 8 ∷ minus 3 ∷ pos 8 ∷ minus 20 ∷ minus 6 ∷ pos 19 ∷ pos 9 ∷ minus 19 ∷ minus 14 ∷ minus 15 ∷ pos 11 ∷ pos 6 ∷ minus 19 ∷ pos 12 ∷ pos 20 ∷ pos 7 ∷ pos 2 ∷ minus 17 ∷ minus 7 ∷ minus 18 ∷ pos 17 ∷ pos 3 ∷ minus 9 ∷ []) (0 ∷ 0 ∷ 0 ∷ 0 ∷ 0 ∷ 0 ∷ 0 ∷ 0 ∷ 0 ∷ 0 ∷ 0 ∷ [])
 
 -- The same, arranged.
 abbrev three : Shelf
@@ -353,7 +348,7 @@ build-three = builds anyThree 0 (0 ∷ 6 ∷ 3 ∷ 9 ∷ 2 ∷ 7 ∷ 4 ∷ 1 ∷
 
 -- A slanted face and a square one, both with negative components.
 abbrev wedgeInThree : Faces
-wedgeInThree = record { h = 2; normals = minus 3 ∷ pos 4 ∷ minus 4 ∷ minus 1 ∷ pos 0 ∷ pos 0 ∷ []; offsets = minus 142 ∷ minus 4 ∷ [] }
+wedgeInThree = faces 2 (minus 3 ∷ pos 4 ∷ minus 4 ∷ minus 1 ∷ pos 0 ∷ pos 0 ∷ []) (minus 142 ∷ minus 4 ∷ [])
 
 -- A wedge in three dimensions.
 abbrev pub list-three : Row
@@ -365,7 +360,7 @@ open-three = opens three wedgeInThree (true ∷ true ∷ true ∷ true ∷ true 
 
 -- Fifteen points with ties: four levels, k 4.
 abbrev anyFour : Shelf
-anyFour = record { k = 4; n = 15; points = pos 2 ∷ minus 3 ∷ pos 2 ∷ minus 3 ∷ pos 2 ∷ pos 9 ∷ pos 9 ∷ minus 3 ∷ pos 2 ∷ minus 3 ∷ pos 2 ∷ minus 3 ∷ pos 2 ∷ minus 7 ∷ pos 9 ∷ pos 0 ∷ minus 3 ∷ pos 2 ∷ pos 0 ∷ pos 2 ∷ pos 9 ∷ pos 0 ∷ pos 2 ∷ pos 2 ∷ minus 3 ∷ minus 3 ∷ pos 9 ∷ minus 3 ∷ pos 2 ∷ minus 3 ∷ pos 2 ∷ pos 9 ∷ pos 2 ∷ minus 3 ∷ pos 2 ∷ minus 7 ∷ minus 7 ∷ minus 7 ∷ pos 0 ∷ minus 7 ∷ pos 2 ∷ minus 3 ∷ pos 2 ∷ minus 3 ∷ pos 9 ∷ pos 2 ∷ minus 3 ∷ minus 7 ∷ minus 3 ∷ minus 3 ∷ pos 2 ∷ minus 3 ∷ pos 9 ∷ pos 0 ∷ pos 2 ∷ minus 3 ∷ minus 3 ∷ minus 3 ∷ minus 7 ∷ pos 2 ∷ []; order = 1 ∷ 1 ∷ 1 ∷ 1 ∷ 1 ∷ 1 ∷ 1 ∷ 1 ∷ 1 ∷ 1 ∷ 1 ∷ 1 ∷ 1 ∷ 1 ∷ 1 ∷ [] }
+anyFour = shelf 4 15 (pos 2 ∷ minus 3 ∷ pos 2 ∷ minus 3 ∷ pos 2 ∷ pos 9 ∷ pos 9 ∷ minus 3 ∷ pos 2 ∷ minus 3 ∷ pos 2 ∷ minus 3 ∷ pos 2 ∷ minus 7 ∷ pos 9 ∷ pos 0 ∷ minus 3 ∷ pos 2 ∷ pos 0 ∷ pos 2 ∷ pos 9 ∷ pos 0 ∷ pos 2 ∷ pos 2 ∷ minus 3 ∷ minus 3 ∷ pos 9 ∷ minus 3 ∷ pos 2 ∷ minus 3 ∷ pos 2 ∷ pos 9 ∷ pos 2 ∷ minus 3 ∷ pos 2 ∷ minus 7 ∷ minus 7 ∷ minus 7 ∷ pos 0 ∷ minus 7 ∷ pos 2 ∷ minus 3 ∷ pos 2 ∷ minus 3 ∷ pos 9 ∷ pos 2 ∷ minus 3 ∷ minus 7 ∷ minus 3 ∷ minus 3 ∷ pos 2 ∷ minus 3 ∷ pos 9 ∷ pos 0 ∷ pos 2 ∷ minus 3 ∷ minus 3 ∷ minus 3 ∷ minus 7 ∷ pos 2 ∷ []) (1 ∷ 1 ∷ 1 ∷ 1 ∷ 1 ∷ 1 ∷ 1 ∷ 1 ∷ 1 ∷ 1 ∷ 1 ∷ 1 ∷ 1 ∷ 1 ∷ 1 ∷ [])
 
 -- The same, arranged.
 abbrev four : Shelf
@@ -377,7 +372,7 @@ build-four = builds anyFour 0 (9 ∷ 0 ∷ 6 ∷ 12 ∷ 14 ∷ 4 ∷ 1 ∷ 2 ∷
 
 -- Two slanted faces in four dimensions.
 abbrev slantedInFour : Faces
-slantedInFour = record { h = 2; normals = pos 2 ∷ pos 0 ∷ minus 4 ∷ pos 5 ∷ pos 4 ∷ pos 1 ∷ pos 1 ∷ minus 1 ∷ []; offsets = minus 57 ∷ pos 29 ∷ [] }
+slantedInFour = faces 2 (pos 2 ∷ pos 0 ∷ minus 4 ∷ pos 5 ∷ pos 4 ∷ pos 1 ∷ pos 1 ∷ minus 1 ∷ []) (minus 57 ∷ pos 29 ∷ [])
 
 -- A slanted region in four dimensions.
 abbrev pub list-four : Row
@@ -397,7 +392,7 @@ check-swapped = checks fourSwapped 9
 
 -- The two extreme points in four dimensions.
 abbrev anyExtremes : Shelf
-anyExtremes = record { k = 4; n = 2; points = minus 32768 ∷ minus 32768 ∷ minus 32768 ∷ minus 32768 ∷ pos 32767 ∷ pos 32767 ∷ pos 32767 ∷ pos 32767 ∷ []; order = 0 ∷ 0 ∷ [] }
+anyExtremes = shelf 4 2 (minus 32768 ∷ minus 32768 ∷ minus 32768 ∷ minus 32768 ∷ pos 32767 ∷ pos 32767 ∷ pos 32767 ∷ pos 32767 ∷ []) (0 ∷ 0 ∷ [])
 
 -- The same, arranged.
 abbrev extremes : Shelf
@@ -409,7 +404,7 @@ build-extremes = builds anyExtremes 0 (0 ∷ 1 ∷ [])
 
 -- The extremes of component and offset; the last face runs through the least point.
 abbrev extremeFaces : Faces
-extremeFaces = record { h = 3; normals = pos 32767 ∷ pos 32767 ∷ pos 32767 ∷ pos 32767 ∷ minus 32767 ∷ minus 32767 ∷ minus 32767 ∷ minus 32767 ∷ minus 32767 ∷ minus 32767 ∷ minus 32767 ∷ minus 32767 ∷ []; offsets = minus 8589934592 ∷ minus 8589934592 ∷ pos 4294836224 ∷ [] }
+extremeFaces = faces 3 (pos 32767 ∷ pos 32767 ∷ pos 32767 ∷ pos 32767 ∷ minus 32767 ∷ minus 32767 ∷ minus 32767 ∷ minus 32767 ∷ minus 32767 ∷ minus 32767 ∷ minus 32767 ∷ minus 32767 ∷ []) (minus 8589934592 ∷ minus 8589934592 ∷ pos 4294836224 ∷ [])
 
 -- The greatest sums of products, one of them on a face.
 abbrev pub list-extremes : Row
@@ -417,7 +412,7 @@ list-extremes = lists extremes extremeFaces (0 ∷ 0 ∷ []) (counts 1 1 2) (0 �
 
 -- An offset that no point reaches.
 abbrev beyondReach : Faces
-beyondReach = record { h = 1; normals = pos 32767 ∷ pos 32767 ∷ pos 32767 ∷ pos 32767 ∷ []; offsets = pos 8589934592 ∷ [] }
+beyondReach = faces 1 (pos 32767 ∷ pos 32767 ∷ pos 32767 ∷ pos 32767 ∷ []) (pos 8589934592 ∷ [])
 
 -- All outside, no visits.
 abbrev pub list-beyond-reach : Row
@@ -425,11 +420,11 @@ list-beyond-reach = lists extremes beyondReach (0 ∷ 0 ∷ []) (counts 0 2 0) (
 
 -- A zero normal with m 0.
 abbrev zeroFace : Faces
-zeroFace = record { h = 1; normals = pos 0 ∷ pos 0 ∷ []; offsets = pos 0 ∷ [] }
+zeroFace = faces 1 (pos 0 ∷ pos 0 ∷ []) (pos 0 ∷ [])
 
 -- A zero normal with m 1.
 abbrev zeroFaceAboveNone : Faces
-zeroFaceAboveNone = record { h = 1; normals = pos 0 ∷ pos 0 ∷ []; offsets = pos 1 ∷ [] }
+zeroFaceAboveNone = faces 1 (pos 0 ∷ pos 0 ∷ []) (pos 1 ∷ [])
 
 -- All inside, no visits.
 abbrev pub list-zero-face : Row
@@ -441,7 +436,7 @@ list-zero-face-above-none = lists shelfA zeroFaceAboveNone (0 ∷ 0 ∷ 0 ∷ 0 
 
 -- The empty shelf.
 abbrev empty : Shelf
-empty = record { k = 3; n = 0; points = []; order = [] }
+empty = shelf 3 0 [] []
 
 -- Nothing, no visits.
 abbrev pub list-empty : Row
@@ -451,11 +446,11 @@ list-empty = lists empty slantedInThree ([]) (counts 0 0 0) ([])
 
 -- k 5, and n 65,536.
 abbrev fiveDimensions : Shelf
-fiveDimensions = record { k = 5; n = 65536; points = []; order = [] }
+fiveDimensions = shelf 5 65536 [] []
 
 -- k 0.
 abbrev noDimension : Shelf
-noDimension = record { k = 0; n = 2; points = []; order = 0 ∷ 1 ∷ [] }
+noDimension = shelf 0 2 [] (0 ∷ 1 ∷ [])
 
 -- 1 before 2.
 abbrev pub build-refuses-k-first : Row
@@ -467,7 +462,7 @@ check-refuses-no-dimension = checks noDimension 1
 
 -- n 65,536, and points of another length.
 abbrev tooMany : Shelf
-tooMany = record { k = 2; n = 65536; points = pos 1 ∷ []; order = [] }
+tooMany = shelf 2 65536 (pos 1 ∷ []) []
 
 -- 2 before 3.
 abbrev pub build-refuses-n-second : Row
@@ -475,7 +470,7 @@ build-refuses-n-second = builds tooMany 2 []
 
 -- Eleven coordinates for six points, and a short order.
 abbrev wrongPoints : Shelf
-wrongPoints = record { k = 2; n = 6; points = pos 1 ∷ pos 5 ∷ pos 4 ∷ pos 2 ∷ pos 4 ∷ pos 8 ∷ pos 7 ∷ pos 1 ∷ pos 6 ∷ pos 6 ∷ pos 2 ∷ []; order = 5 ∷ [] }
+wrongPoints = shelf 2 6 (pos 1 ∷ pos 5 ∷ pos 4 ∷ pos 2 ∷ pos 4 ∷ pos 8 ∷ pos 7 ∷ pos 1 ∷ pos 6 ∷ pos 6 ∷ pos 2 ∷ []) (5 ∷ [])
 
 -- 3 before 4.
 abbrev pub build-refuses-points-third : Row
@@ -483,7 +478,7 @@ build-refuses-points-third = builds wrongPoints 3 (5 ∷ [])
 
 -- A short order, and a coordinate out of range.
 abbrev shortOrder : Shelf
-shortOrder = record { k = 1; n = 2; points = pos 0 ∷ pos 40000 ∷ []; order = 5 ∷ [] }
+shortOrder = shelf 1 2 (pos 0 ∷ pos 40000 ∷ []) (5 ∷ [])
 
 -- 4 before 5.
 abbrev pub build-refuses-room-fourth : Row
@@ -491,7 +486,7 @@ build-refuses-room-fourth = builds shortOrder 4 (5 ∷ [])
 
 -- Coordinate 32,768, and an order that is no tree.
 abbrev coordinateTooHigh : Shelf
-coordinateTooHigh = record { k = 1; n = 2; points = pos 0 ∷ pos 32768 ∷ []; order = 0 ∷ 0 ∷ [] }
+coordinateTooHigh = shelf 1 2 (pos 0 ∷ pos 32768 ∷ []) (0 ∷ 0 ∷ [])
 
 -- 5 before 9.
 abbrev pub check-refuses-coordinate-fifth : Row
@@ -499,7 +494,7 @@ check-refuses-coordinate-fifth = checks coordinateTooHigh 5
 
 -- Coordinate -32,769.
 abbrev coordinateTooLow : Shelf
-coordinateTooLow = record { k = 1; n = 2; points = minus 32769 ∷ pos 0 ∷ []; order = 0 ∷ 1 ∷ [] }
+coordinateTooLow = shelf 1 2 (minus 32769 ∷ pos 0 ∷ []) (0 ∷ 1 ∷ [])
 
 -- 5 for a coordinate too low; the order stays.
 abbrev pub build-refuses-low-coordinate : Row
@@ -507,7 +502,7 @@ build-refuses-low-coordinate = builds coordinateTooLow 5 (0 ∷ 1 ∷ [])
 
 -- h 33, and normals of another length.
 abbrev tooManyFaces : Faces
-tooManyFaces = record { h = 33; normals = []; offsets = [] }
+tooManyFaces = faces 33 [] []
 
 -- 4 for a short list buffer, before 6.
 abbrev pub list-refuses-short-list : Row
@@ -523,7 +518,7 @@ list-refuses-h = lists pair tooManyFaces (3 ∷ 3 ∷ []) (refusal 6) (3 ∷ 3 �
 
 -- A component too many, and an offset out of range.
 abbrev wrongNormals : Faces
-wrongNormals = record { h = 1; normals = pos 1 ∷ pos 2 ∷ []; offsets = pos 9000000000 ∷ [] }
+wrongNormals = faces 1 (pos 1 ∷ pos 2 ∷ []) (pos 9000000000 ∷ [])
 
 -- 7 before 8.
 abbrev pub list-refuses-normals : Row
@@ -531,7 +526,7 @@ list-refuses-normals = lists pair wrongNormals (3 ∷ 3 ∷ []) (refusal 7) (3 �
 
 -- No offset, and a component out of range.
 abbrev wrongOffsets : Faces
-wrongOffsets = record { h = 1; normals = minus 32768 ∷ []; offsets = [] }
+wrongOffsets = faces 1 (minus 32768 ∷ []) []
 
 -- 7 for offsets of another length, before 8.
 abbrev pub list-refuses-offsets : Row
@@ -543,7 +538,7 @@ pairSwapped = ordered pair (1 ∷ 0 ∷ [])
 
 -- Component -32,768.
 abbrev componentTooLow : Faces
-componentTooLow = record { h = 1; normals = minus 32768 ∷ []; offsets = pos 0 ∷ [] }
+componentTooLow = faces 1 (minus 32768 ∷ []) (pos 0 ∷ [])
 
 -- 8 before 9.
 abbrev pub list-refuses-component : Row
@@ -551,7 +546,7 @@ list-refuses-component = lists pairSwapped componentTooLow (3 ∷ 3 ∷ []) (ref
 
 -- Component 32,768.
 abbrev componentTooHigh : Faces
-componentTooHigh = record { h = 1; normals = pos 32768 ∷ []; offsets = pos 0 ∷ [] }
+componentTooHigh = faces 1 (pos 32768 ∷ []) (pos 0 ∷ [])
 
 -- 8 for component 32,768.
 abbrev pub list-refuses-high-component : Row
@@ -559,7 +554,7 @@ list-refuses-high-component = lists pair componentTooHigh (3 ∷ 3 ∷ []) (refu
 
 -- Offset 8,589,934,593.
 abbrev offsetTooHigh : Faces
-offsetTooHigh = record { h = 1; normals = pos 1 ∷ []; offsets = pos 8589934593 ∷ [] }
+offsetTooHigh = faces 1 (pos 1 ∷ []) (pos 8589934593 ∷ [])
 
 -- 8 for an offset one too great.
 abbrev pub list-refuses-offset : Row
@@ -567,7 +562,7 @@ list-refuses-offset = lists pair offsetTooHigh (3 ∷ 3 ∷ []) (refusal 8) (3 �
 
 -- Offset -8,589,934,593.
 abbrev offsetTooLow : Faces
-offsetTooLow = record { h = 1; normals = pos 1 ∷ []; offsets = minus 8589934593 ∷ [] }
+offsetTooLow = faces 1 (pos 1 ∷ []) (minus 8589934593 ∷ [])
 
 -- 8 for an offset one too small.
 abbrev pub list-refuses-low-offset : Row
@@ -623,7 +618,7 @@ sum-0-3 = sums 0 3 0
 
 -- Four faces on the plane: the zero face, one component, one negative component, two components.
 abbrev fourFaces : Faces
-fourFaces = record { h = 4; normals = pos 0 ∷ pos 0 ∷ pos 1 ∷ pos 0 ∷ pos 0 ∷ minus 3 ∷ pos 1 ∷ minus 1 ∷ []; offsets = pos 0 ∷ pos 0 ∷ pos 0 ∷ pos 0 ∷ [] }
+fourFaces = faces 4 (pos 0 ∷ pos 0 ∷ pos 1 ∷ pos 0 ∷ pos 0 ∷ minus 3 ∷ pos 1 ∷ minus 1 ∷ []) (pos 0 ∷ pos 0 ∷ pos 0 ∷ pos 0 ∷ [])
 
 -- At most one component is not zero.
 abbrev pub square-faces : Row
@@ -631,7 +626,7 @@ square-faces = squares 2 fourFaces (true ∷ true ∷ true ∷ false ∷ [])
 
 -- n 65,535 passes as a number of points; the points are missing.
 abbrev fullShelf : Shelf
-fullShelf = record { k = 1; n = 65535; points = []; order = [] }
+fullShelf = shelf 1 65535 [] []
 
 -- 65,535 is not too many.
 abbrev pub build-takes-full-shelf : Row
@@ -639,7 +634,7 @@ build-takes-full-shelf = builds fullShelf 3 []
 
 -- h 32 on a line, all zero faces.
 abbrev mostFaces : Faces
-mostFaces = record { h = 32; normals = replicate 32 (pos 0); offsets = replicate 32 (pos 0) }
+mostFaces = faces 32 (replicate 32 (pos 0)) (replicate 32 (pos 0))
 
 -- 32 faces are not too many.
 abbrev pub list-takes-most-faces : Row

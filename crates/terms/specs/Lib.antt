@@ -1,4 +1,5 @@
 pub mod Tests
+pub mod Lent
 pub mod Points
 pub mod Before
 pub mod Run

@@ -6,6 +6,7 @@ use lib.ListN.{getD}
 use lib.IntN.{ℤ, pos, negsuc}
 use lib.Signed.{leZ}
 use lib.Dec.{ltb}
+use Rattle.terms.specs.Lent.{Stock}
 
 -- Coordinate d of a point that is lent alone.
 abbrev pub lone : List ℤ → ℕ → ℤ
@@ -18,6 +19,18 @@ coord k points p d = getD points (p * k + d) (pos 0)
 -- Which numbers belong to a shelf of n: those below n.
 abbrev pub below : ℕ → ℕ → Bool
 below n p = ltb p n
+
+-- Coordinate d of point p of the stock.
+abbrev pub pointOf : Stock → ℕ → ℕ → ℤ
+pointOf s = coord (s .k) (s .points)
+
+-- Which numbers belong to the stock.
+abbrev pub belongsTo : Stock → ℕ → Bool
+belongsTo s = below (s .n)
+
+-- How many slots the stock's shelf has.
+abbrev pub slotsOf : Stock → ℕ
+slotsOf s = s .n
 
 -- The number is from least to greatest, both allowed.
 abbrev pub within : ℤ → ℤ → ℤ → Bool

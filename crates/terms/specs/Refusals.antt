@@ -6,7 +6,8 @@ use lib.ListN.{length}
 use lib.IntN.{ℤ}
 use lib.Dec.{leb, ltb, eqb}
 use Rattle.terms.specs.Tests.{every}
-use Rattle.terms.specs.Points.{isCoordinate}
+use Rattle.terms.specs.Lent.{Stock, Order, Faces}
+use Rattle.terms.specs.Points.{slotsOf, isCoordinate}
 use Rattle.terms.specs.Region.{isComponent, isOffset}
 use Rattle.terms.specs.Tree.{isShelf}
 
@@ -37,8 +38,8 @@ abbrev pub lengthRefusals : ℕ → List ℤ → List Refusal
 lengthRefusals size points = record { number = 3; holds = notLong size points } ∷ []
 
 -- The points' shape: 1, 2 and 3.
-abbrev pub pointsRefusals : ℕ → ℕ → List ℤ → List Refusal
-pointsRefusals k n points = dimensionRefusals k ++ sizeRefusals n ++ lengthRefusals (k * n) points
+abbrev pub pointsRefusals : Stock → List Refusal
+pointsRefusals s = dimensionRefusals (s .k) ++ sizeRefusals (s .n) ++ lengthRefusals (s .k * s .n) (s .points)
 
 -- 4: the order, or a list buffer, is shorter than the slots.
 abbrev pub roomRefusals : ℕ → List ℕ → List Refusal
@@ -49,38 +50,38 @@ abbrev pub coordinateRefusals : List ℤ → List Refusal
 coordinateRefusals points = record { number = 5; holds = not (every isCoordinate points) } ∷ []
 
 -- The faces: 6, h is over 32; 7, a list of another length; 8, a component or an offset out of range.
-abbrev pub faceRefusals : ℕ → ℕ → List ℤ → List ℤ → List Refusal
-faceRefusals k h normals offsets =
-    record { number = 6; holds = ltb 32 h }
-    ∷ record { number = 7; holds = notLong (k * h) normals }
-    ∷ record { number = 7; holds = notLong h offsets }
-    ∷ record { number = 8; holds = not (every isComponent normals) }
-    ∷ record { number = 8; holds = not (every isOffset offsets) }
+abbrev pub faceRefusals : ℕ → Faces → List Refusal
+faceRefusals k f =
+    record { number = 6; holds = ltb 32 (f .h) }
+    ∷ record { number = 7; holds = notLong (k * f .h) (f .normals) }
+    ∷ record { number = 7; holds = notLong (f .h) (f .offsets) }
+    ∷ record { number = 8; holds = not (every isComponent (f .normals)) }
+    ∷ record { number = 8; holds = not (every isOffset (f .offsets)) }
     ∷ []
 
 -- 9: the first n slots are not the tree of these points.
-abbrev pub treeRefusals : ℕ → ℕ → List ℤ → List ℕ → List Refusal
-treeRefusals k n points order = record { number = 9; holds = not (isShelf k n points order) } ∷ []
+abbrev pub treeRefusals : Stock → Order → List Refusal
+treeRefusals s o = record { number = 9; holds = not (isShelf s o) } ∷ []
 
 -- Build: 1 to 5.
-abbrev pub buildRefusals : ℕ → ℕ → List ℤ → List ℕ → List Refusal
-buildRefusals k n points order = pointsRefusals k n points ++ roomRefusals n order ++ coordinateRefusals points
+abbrev pub buildRefusals : Stock → Order → List Refusal
+buildRefusals s o = pointsRefusals s ++ roomRefusals (slotsOf s) (o .slots) ++ coordinateRefusals (s .points)
 
 -- Check: 1 to 5, 9.
-abbrev pub checkRefusals : ℕ → ℕ → List ℤ → List ℕ → List Refusal
-checkRefusals k n points order = buildRefusals k n points order ++ treeRefusals k n points order
+abbrev pub checkRefusals : Stock → Order → List Refusal
+checkRefusals s o = buildRefusals s o ++ treeRefusals s o
 
 -- List: 1 to 9.
-abbrev pub listRefusals : ℕ → ℕ → ℕ → List ℤ → List ℕ → List ℤ → List ℤ → List ℕ → List Refusal
-listRefusals k n h points order normals offsets list =
-    pointsRefusals k n points
-    ++ roomRefusals n order
-    ++ roomRefusals n list
-    ++ coordinateRefusals points
-    ++ faceRefusals k h normals offsets
-    ++ treeRefusals k n points order
+abbrev pub listRefusals : Stock → Order → Faces → List ℕ → List Refusal
+listRefusals s o f list =
+    pointsRefusals s
+    ++ roomRefusals (slotsOf s) (o .slots)
+    ++ roomRefusals (slotsOf s) list
+    ++ coordinateRefusals (s .points)
+    ++ faceRefusals (s .k) f
+    ++ treeRefusals s o
 
 -- One-point test: 1, 3, 5 to 8.
-abbrev pub placeRefusals : ℕ → ℕ → List ℤ → List ℤ → List ℤ → List Refusal
-placeRefusals k h point normals offsets =
-    dimensionRefusals k ++ lengthRefusals k point ++ coordinateRefusals point ++ faceRefusals k h normals offsets
+abbrev pub placeRefusals : ℕ → List ℤ → Faces → List Refusal
+placeRefusals k point f =
+    dimensionRefusals k ++ lengthRefusals k point ++ coordinateRefusals point ++ faceRefusals k f

@@ -1,12 +1,12 @@
 -- The region: faces, above and below, a box's two corners, settled and open.
 use mathlib.Core.Bool.{Bool, _||_, cond, not}
-use mathlib.Core.List.{List}
 use Prim.Native.Nat.{ℕ, _+_, _*_}
 use lib.ListN.{getD}
 use lib.IntN.{ℤ, pos, negsuc, _*ℤ_}
 use lib.Signed.{leZ, nonNeg}
 use Rattle.whole.specs.IndexedSum.{sumTo}
 use Rattle.terms.specs.Tests.{allTo, anyTo}
+use Rattle.terms.specs.Lent.{Faces}
 use Rattle.terms.specs.Points.{within}
 use Rattle.terms.specs.Box.{Box}
 
@@ -17,13 +17,13 @@ pub record Region : Type 0 where
   pub component : ℕ → ℕ → ℤ
   pub offset : ℕ → ℤ
 
--- The region of the lent lists, k components to a face.
-abbrev pub region : ℕ → ℕ → List ℤ → List ℤ → Region
-region k h normals offsets = record {
+-- The region of the lent faces, k components to a face.
+abbrev pub region : ℕ → Faces → Region
+region k f = record {
   k = k;
-  h = h;
-  component = λ i d. getD normals (i * k + d) (pos 0);
-  offset = λ i. getD offsets i (pos 0);
+  h = f .h;
+  component = λ i d. getD (f .normals) (i * k + d) (pos 0);
+  offset = λ i. getD (f .offsets) i (pos 0);
 }
 
 -- Face i taken as a region alone.

@@ -6,7 +6,8 @@ use lib.ListN.{length, take}
 use lib.IntN.{ℤ}
 use lib.Dec.{eqb}
 use Rattle.terms.specs.Tests.{count, every, keep, rising}
-use Rattle.terms.specs.Points.{coord, below}
+use Rattle.terms.specs.Lent.{Stock, Order}
+use Rattle.terms.specs.Points.{pointOf, belongsTo, slotsOf}
 use Rattle.terms.specs.Before.{before}
 use Rattle.terms.specs.Run.{axis, node, lefts, rights}
 
@@ -34,6 +35,10 @@ eachOnce belongs m run = every belongs run && every (λ p. eqb (count (eqb p) ru
 unfoldable pub isTree : ℕ → (ℕ → ℕ → ℤ) → (ℕ → Bool) → ℕ → List ℕ → Bool
 isTree k at belongs m run = eachOnce belongs m run && treeRun (length run) k at 0 run
 
--- The first n slots are the tree of the n lent points.
-abbrev pub isShelf : ℕ → ℕ → List ℤ → List ℕ → Bool
-isShelf k n points order = isTree k (coord k points) (below n) n (take n order)
+-- The slots of the stock's shelf: the first of the order.
+abbrev pub shelfRun : Stock → Order → List ℕ
+shelfRun s o = take (slotsOf s) (o .slots)
+
+-- They are the tree of the stock's numbers.
+abbrev pub isShelf : Stock → Order → Bool
+isShelf s o = isTree (s .k) (pointOf s) (belongsTo s) (s .n) (shelfRun s o)

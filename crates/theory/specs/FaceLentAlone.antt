@@ -13,6 +13,7 @@ use lib.Dec.{eqb}
 use borrow.Author.Tests.{eqb-true, eq-eqb}
 use Rattle.whole.specs.IndexedSum.{sum-same}
 use Rattle.terms.specs.Tests.{every, count, allTo, anyTo}
+use Rattle.terms.specs.Lent.{Stock, Order, Faces, faces}
 use Rattle.terms.specs.Box.{Box, rootBox, shelfBoxes}
 use Rattle.terms.specs.Region.{region, alone, above, aboveAt, bySign, isSettled, isOpen, isComponent, isOffset}
 use Rattle.terms.specs.Visits.{visits}
@@ -24,38 +25,38 @@ use Rattle.theory.specs.AboveIsUpward.{above-same-offset, above-alone}
 use Rattle.theory.specs.BoxFuel.{visits-count}
 use Rattle.theory.specs.FirstRefusalIsLowest.{list-lowest}
 
--- Face i's components, and its offset, as lists of their own.
-abbrev pub faceNormals : ℕ → ℕ → List ℤ → List ℤ
-faceNormals k i normals = take k (drop (i * k) normals)
+-- Face i lent alone: its components and its offset.
+abbrev pub faceAlone : ℕ → Faces → ℕ → Faces
+faceAlone k f i = faces 1 (take k (drop (i * k) (f .normals))) (getD (f .offsets) i (pos 0) ∷ [])
 
-abbrev pub faceOffsets : ℕ → List ℤ → List ℤ
-faceOffsets i offsets = getD offsets i (pos 0) ∷ []
+module _ (k : ℕ) (f : Faces) (i : ℕ) where
+  -- Its components as it is lent alone.
+  abbrev normals : List ℤ
+  normals = faceAlone k f i .normals
 
-module _ (k h : ℕ) (normals offsets : List ℤ) (i : ℕ) where
-  lent-component : (d : ℕ) → d < k → getD (faceNormals k i normals) (0 * k + d) (pos 0) ≡ getD normals (i * k + d) (pos 0)
+  lent-component : (d : ℕ) → d < k → getD normals (0 * k + d) (pos 0) ≡ getD (f .normals) (i * k + d) (pos 0)
   lent-component d l =
       let z : 0 * k + d ≡ d = omega arith in
-      rw (z, getD-take k (drop (i * k) normals) d (pos 0) l) (getD-drop (i * k) normals d (pos 0))
+      rw (z, getD-take k (drop (i * k) (f .normals)) d (pos 0) l) (getD-drop (i * k) (f .normals) d (pos 0))
 
   -- A corner that is chosen by the components is above the face lent alone exactly where it is above the face taken alone.
   lent-above : (corner : ℤ → ℕ → ℤ)
-      → above (region k 1 (faceNormals k i normals) (faceOffsets i offsets)) 0 (λ d. corner (getD (faceNormals k i normals) (0 * k + d) (pos 0)) d)
-      ≡ above (alone (region k h normals offsets) i) 0 (λ d. corner (getD normals (i * k + d) (pos 0)) d)
+      → above (region k (faceAlone k f i)) 0 (λ d. corner (getD normals (0 * k + d) (pos 0)) d)
+      ≡ above (alone (region k f) i) 0 (λ d. corner (getD (f .normals) (i * k + d) (pos 0)) d)
   lent-above corner =
-      above-same-offset (region k 1 (faceNormals k i normals) (faceOffsets i offsets)) (region k h normals offsets) 0 i refl _
-      ∙ ap (aboveAt (region k h normals offsets) i) (sum-same k _ _ (λ d l. ap (λ (c : ℤ). c *ℤ corner c d) (lent-component d l)))
-      ∙ sym (above-alone (region k h normals offsets) i 0 _)
+      above-same-offset (region k (faceAlone k f i)) (region k f) 0 i refl _
+      ∙ ap (aboveAt (region k f) i) (sum-same k _ _ (λ d l. ap (λ (c : ℤ). c *ℤ corner c d) (lent-component d l)))
+      ∙ sym (above-alone (region k f) i 0 _)
 
-  lent-open : (b : Box) → isOpen (region k 1 (faceNormals k i normals) (faceOffsets i offsets)) b ≡ isOpen (alone (region k h normals offsets) i) b
+  lent-open : (b : Box) → isOpen (region k (faceAlone k f i)) b ≡ isOpen (alone (region k f) i) b
   unfolding isOpen isSettled anyTo allTo
   lent-open b = rw (lent-above (λ c d. bySign c (b .low d) (b .high d)), lent-above (λ c d. bySign c (b .high d) (b .low d)))
 
-  pub lent-visits : (at : ℕ → ℕ → ℤ) (run : List ℕ)
-      → visits (region k 1 (faceNormals k i normals) (faceOffsets i offsets)) at run ≡ visits (alone (region k h normals offsets) i) at run
+  pub lent-visits : (at : ℕ → ℕ → ℤ) (run : List ℕ) → visits (region k (faceAlone k f i)) at run ≡ visits (alone (region k f) i) at run
   lent-visits at run =
       visits-count _ at run
       ∙ count-same (rootBox at run) _ _ (shelfBoxes k at run) (λ s l. lent-open (getD (shelfBoxes k at run) s (rootBox at run)))
-      ∙ sym (visits-count (alone (region k h normals offsets) i) at run)
+      ∙ sym (visits-count (alone (region k f) i) at run)
 
 -- What every item passes, the items of a part pass.
 every-part : {A : Type 0} (z : A) (test : A → Bool) (a c : ℕ) (xs : List A) → every test xs ≡ true → every test (take c (drop a xs)) ≡ true
@@ -65,19 +66,19 @@ every-part z test a c xs e = at-every test z (take c (drop a xs))
     let room : a + i < length xs = omega (arith, length-take c (drop a xs), length-drop a xs) in
     rw (getD-take c (drop a xs) i z m, getD-drop a xs i z) (every-at test z xs e (a + i) room))
 
-module _ (k n h : ℕ) (points : List ℤ) (order : List ℕ) (normals offsets : List ℤ) (list : List ℕ) where
+module _ (s : Stock) (o : Order) (f : Faces) (list : List ℕ) where
   -- Where the list call on all faces is done, so is the one on a face alone.
-  pub lent-done : listCode k n h points order normals offsets list ≡ 0 → (i : ℕ) → i < h
-      → listCode k n 1 points order (faceNormals k i normals) (faceOffsets i offsets) list ≡ 0
+  pub lent-done : listCode s o f list ≡ 0 → (i : ℕ) → i < f .h → listCode s o (faceAlone (s .k) f i) list ≡ 0
   unfolding listCode firstOf every
   lent-done e i l =
-      let t = list-lowest k n h points order normals offsets list .done e in
-      let size : length normals ≡ k * h = eqb-true (length normals) (k * h) (not-false (eqb (length normals) (k * h)) (t 7)) in
-      let count : length offsets ≡ h = eqb-true (length offsets) h (not-false (eqb (length offsets) h) (t 8)) in
-      let room : k ≤ length (drop (i * k) normals) = omega (arith, length-drop (i * k) normals, mul-le-mul-right k l, suc-mul i k) in
-      let long : length (faceNormals k i normals) ≡ k * 1 = omega (arith, length-take-le k (drop (i * k) normals) room) in
-      let components : every isComponent (faceNormals k i normals) ≡ true =
-      every-part (pos 0) isComponent (i * k) k normals (not-false (every isComponent normals) (t 9)) in
-      let offset : isOffset (getD offsets i (pos 0)) ≡ true =
-      every-at isOffset (pos 0) offsets (not-false (every isOffset offsets) (t 10)) i (omega arith) in
+      let k : ℕ = s .k in
+      let t = list-lowest s o f list .done e in
+      let size : length (f .normals) ≡ k * f .h = eqb-true (length (f .normals)) (k * f .h) (not-false (eqb (length (f .normals)) (k * f .h)) (t 7)) in
+      let count : length (f .offsets) ≡ f .h = eqb-true (length (f .offsets)) (f .h) (not-false (eqb (length (f .offsets)) (f .h)) (t 8)) in
+      let room : k ≤ length (drop (i * k) (f .normals)) = omega (arith, length-drop (i * k) (f .normals), mul-le-mul-right k l, suc-mul i k) in
+      let long : length (faceAlone k f i .normals) ≡ k * 1 = omega (arith, length-take-le k (drop (i * k) (f .normals)) room) in
+      let components : every isComponent (faceAlone k f i .normals) ≡ true =
+      every-part (pos 0) isComponent (i * k) k (f .normals) (not-false (every isComponent (f .normals)) (t 9)) in
+      let offset : isOffset (getD (f .offsets) i (pos 0)) ≡ true =
+      every-at isOffset (pos 0) (f .offsets) (not-false (every isOffset (f .offsets)) (t 10)) i (omega arith) in
       rw (t 0, t 1, t 2, t 3, t 4, t 5, eq-eqb _ _ long, components, offset, t 11)

@@ -10,6 +10,7 @@ use lib.ListN.{getD}
 use lib.IntN.{ℤ}
 use lib.Dec.{leb}
 use borrow.Author.Tests.{leb-true}
+use Rattle.terms.specs.Lent.{Stock, Order, Faces}
 use Rattle.terms.specs.Refusals.{Refusal, firstOf, buildRefusals, checkRefusals, listRefusals, placeRefusals}
 use Rattle.terms.specs.Calls.{buildAnswer, checkAnswer, listCode, placeCode}
 use Rattle.theory.specs.Flags.{clash, and-true}
@@ -61,19 +62,18 @@ first-lowest b (r ∷ rs) l e =
     one-more (r .holds) (r .number) rs (firstOf rs) m (p .1) (first-lowest (r .number) rs m (p .1))
 
 -- "Each call tests those that concern its arguments, in rising order; the lowest that holds is returned."
-pub build-lowest : (k n : ℕ) (points : List ℤ) (order : List ℕ) → Lowest (buildRefusals k n points order) (buildAnswer k n points order)
+pub build-lowest : (s : Stock) (o : Order) → Lowest (buildRefusals s o) (buildAnswer s o)
 unfolding risesFrom buildAnswer
-build-lowest k n points order = first-lowest 1 (buildRefusals k n points order) (omega arith) refl
+build-lowest s o = first-lowest 1 (buildRefusals s o) (omega arith) refl
 
-pub check-lowest : (k n : ℕ) (points : List ℤ) (order : List ℕ) → Lowest (checkRefusals k n points order) (checkAnswer k n points order)
+pub check-lowest : (s : Stock) (o : Order) → Lowest (checkRefusals s o) (checkAnswer s o)
 unfolding risesFrom checkAnswer
-check-lowest k n points order = first-lowest 1 (checkRefusals k n points order) (omega arith) refl
+check-lowest s o = first-lowest 1 (checkRefusals s o) (omega arith) refl
 
-pub list-lowest : (k n h : ℕ) (points : List ℤ) (order : List ℕ) (normals offsets : List ℤ) (list : List ℕ)
-    → Lowest (listRefusals k n h points order normals offsets list) (listCode k n h points order normals offsets list)
+pub list-lowest : (s : Stock) (o : Order) (f : Faces) (list : List ℕ) → Lowest (listRefusals s o f list) (listCode s o f list)
 unfolding risesFrom listCode
-list-lowest k n h points order normals offsets list = first-lowest 1 (listRefusals k n h points order normals offsets list) (omega arith) refl
+list-lowest s o f list = first-lowest 1 (listRefusals s o f list) (omega arith) refl
 
-pub place-lowest : (k h : ℕ) (point normals offsets : List ℤ) → Lowest (placeRefusals k h point normals offsets) (placeCode k h point normals offsets)
+pub place-lowest : (k : ℕ) (point : List ℤ) (f : Faces) → Lowest (placeRefusals k point f) (placeCode k point f)
 unfolding risesFrom placeCode
-place-lowest k h point normals offsets = first-lowest 1 (placeRefusals k h point normals offsets) (omega arith) refl
+place-lowest k point f = first-lowest 1 (placeRefusals k point f) (omega arith) refl

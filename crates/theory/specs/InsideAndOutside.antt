@@ -6,12 +6,13 @@ use mathlib.Core.List.{List, [], _∷_, _++_, reverse, reverseAux, reverseAux-eq
 use Prim.Native.Nat.{ℕ, zero, suc, _+_, _-_, _<_}
 use native.Mathlib.Nat.{not-suc-le-zero}
 use native.Mathlib.Omega.{arith}
-use lib.ListN.{length, getD, take, length-append, length-reverse, List·getD-append}
+use lib.ListN.{length, getD, length-append, length-reverse, List·getD-append}
 use lib.Seq.{getD-at, getD-append-add}
 use lib.IntN.{ℤ}
 use Rattle.terms.specs.Tests.{bit, count, keep, pick}
-use Rattle.terms.specs.Points.{coord, below}
-use Rattle.terms.specs.Tree.{eachOnce, isTree, isShelf}
+use Rattle.terms.specs.Lent.{Stock, Order}
+use Rattle.terms.specs.Points.{pointOf, belongsTo, slotsOf}
+use Rattle.terms.specs.Tree.{eachOnce, isTree, shelfRun, isShelf}
 use Rattle.terms.specs.Region.{Region}
 use Rattle.terms.specs.Lists.{insides, outsides, places}
 use Rattle.theory.specs.Flags.{and-true}
@@ -92,14 +93,14 @@ module _ (g : Region) (at : ℕ → ℕ → ℤ) (run : List ℕ) where
       let e : length run - suc i ≡ length (insides g at run) + (length (outsides g at run) - suc i) = omega (arith, lists-length) in
       rw e (getD-append-add (insides g at run) (reverse (outsides g at run)) _ 0 ∙ reverse-at 0 (outsides g at run) i l)
 
--- ---- the lists of a shelf of n
-module _ (k n : ℕ) (points : List ℤ) (order : List ℕ) (shelf : isShelf k n points order ≡ true) (g : Region) where
-  each-slot : eachOnce (below n) n (take n order) ≡ true
+-- ---- the lists of a shelf
+module _ (s : Stock) (o : Order) (shelf : isShelf s o ≡ true) (g : Region) where
+  each-slot : eachOnce (belongsTo s) (s .n) (shelfRun s o) ≡ true
   unfolding isTree
-  each-slot = and-true (eachOnce (below n) n (take n order)) shelf .0
+  each-slot = and-true (eachOnce (belongsTo s) (s .n) (shelfRun s o)) shelf .0
 
-  pub shelf-lists-length : length (insides g (coord k points) (take n order)) + length (outsides g (coord k points) (take n order)) ≡ n
-  shelf-lists-length = lists-length g (coord k points) (take n order) ∙ shelf-length n (take n order) each-slot
+  pub shelf-lists-length : length (insides g (pointOf s) (shelfRun s o)) + length (outsides g (pointOf s) (shelfRun s o)) ≡ slotsOf s
+  shelf-lists-length = lists-length g (pointOf s) (shelfRun s o) ∙ shelf-length (s .n) (shelfRun s o) each-slot
 
-  pub shelf-places-each : eachOnce (below n) n (places g (coord k points) (take n order)) ≡ true
-  shelf-places-each = places-each g (coord k points) (take n order) (below n) n each-slot
+  pub shelf-places-each : eachOnce (belongsTo s) (s .n) (places g (pointOf s) (shelfRun s o)) ≡ true
+  shelf-places-each = places-each g (pointOf s) (shelfRun s o) (belongsTo s) (s .n) each-slot

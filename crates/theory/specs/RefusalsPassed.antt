@@ -9,9 +9,10 @@ use native.Mathlib.Omega.{arith}
 use lib.ListN.{length, getD}
 use lib.IntN.{ℤ, pos, negsuc}
 use lib.Dec.{leb, eqb}
-use borrow.Author.Tests.{leb-true, ltb-false, eqb-true}
+use borrow.Author.Tests.{leb-true, ltb-true, ltb-false, eqb-true}
 use Rattle.terms.specs.Tests.{every}
-use Rattle.terms.specs.Points.{isCoordinate}
+use Rattle.terms.specs.Lent.{Stock, Order, Faces, stock}
+use Rattle.terms.specs.Points.{slotsOf, isCoordinate}
 use Rattle.terms.specs.Region.{isComponent, isOffset}
 use Rattle.terms.specs.Tree.{isShelf}
 use Rattle.terms.specs.Refusals.{
@@ -30,7 +31,7 @@ use Rattle.terms.specs.Refusals.{
 }
 use Rattle.terms.specs.Calls.{buildAnswer, checkAnswer, listCode, placeCode}
 use Rattle.theory.specs.Flags.{not-false, and-true}
-use Rattle.theory.specs.Tested.{TestedPoints, TestedFaces, Between, within-each}
+use Rattle.theory.specs.Tested.{TestedPoints, TestedFaces, Between, within-each, coordinate-place}
 use Rattle.theory.specs.FirstRefusalIsLowest.{none, build-lowest, check-lowest, list-lowest, place-lowest}
 
 -- No test of the list holds.
@@ -76,109 +77,111 @@ pub coordinates-passed : (points : List ℤ) → Passed (coordinateRefusals poin
     → (i : ℕ) → i < length points → Between (negsuc 32767) (getD points i (pos 0)) (pos 32767)
 coordinates-passed points w = within-each (negsuc 32767) (pos 32767) points (not-false (every isCoordinate points) (w .fails 0))
 
-pub points-passed : (k n : ℕ) (points : List ℤ) → Passed (pointsRefusals k n points) → Passed (coordinateRefusals points) → TestedPoints k n points
-points-passed k n points w c =
-    let a = passed-parts (dimensionRefusals k) (sizeRefusals n ++ lengthRefusals (k * n) points) w in
-    let b = passed-parts (sizeRefusals n) (lengthRefusals (k * n) points) (a .1) in
-    let d = dimension-passed k (a .0) in
+pub points-passed : (s : Stock) → Passed (pointsRefusals s) → Passed (coordinateRefusals (s .points)) → TestedPoints s
+points-passed s w c =
+    let a = passed-parts (dimensionRefusals (s .k)) (sizeRefusals (s .n) ++ lengthRefusals (s .k * s .n) (s .points)) w in
+    let b = passed-parts (sizeRefusals (s .n)) (lengthRefusals (s .k * s .n) (s .points)) (a .1) in
+    let d = dimension-passed (s .k) (a .0) in
+    let size = length-passed (s .k * s .n) (s .points) (b .1) in
     record {
       some = d .0;
       few = d .1;
-      many = ltb-false 65535 n (b .0 .fails 0);
-      size = length-passed (k * n) points (b .1);
-      ranges = coordinates-passed points c;
+      many = ltb-false 65535 (s .n) (b .0 .fails 0);
+      size = size;
+      each = λ p e. record { ranges = λ i l. coordinates-passed (s .points) c _ (coordinate-place (s .k) (s .n) (s .points) size (ltb-true p (s .n) e) l) };
     }
 
-pub faces-passed : (k h : ℕ) (normals offsets : List ℤ) → Passed (faceRefusals k h normals offsets) → TestedFaces k h normals offsets
-faces-passed k h normals offsets w = record {
-  faces = ltb-false 32 h (w .fails 0);
-  normals-size = eqb-true (length normals) (k * h) (not-false (eqb (length normals) (k * h)) (w .fails 1));
-  offsets-size = eqb-true (length offsets) h (not-false (eqb (length offsets) h) (w .fails 2));
-  components = within-each (negsuc 32766) (pos 32767) normals (not-false (every isComponent normals) (w .fails 3));
-  offsets-range = within-each (negsuc 8589934591) (pos 8589934592) offsets (not-false (every isOffset offsets) (w .fails 4));
+pub faces-passed : (k : ℕ) (f : Faces) → Passed (faceRefusals k f) → TestedFaces k f
+faces-passed k f w = record {
+  many = ltb-false 32 (f .h) (w .fails 0);
+  normals-size = eqb-true (length (f .normals)) (k * f .h) (not-false (eqb (length (f .normals)) (k * f .h)) (w .fails 1));
+  offsets-size = eqb-true (length (f .offsets)) (f .h) (not-false (eqb (length (f .offsets)) (f .h)) (w .fails 2));
+  components = within-each (negsuc 32766) (pos 32767) (f .normals) (not-false (every isComponent (f .normals)) (w .fails 3));
+  offsets-range = within-each (negsuc 8589934591) (pos 8589934592) (f .offsets) (not-false (every isOffset (f .offsets)) (w .fails 4));
 }
 
-pub tree-passed : (k n : ℕ) (points : List ℤ) (order : List ℕ) → Passed (treeRefusals k n points order) → isShelf k n points order ≡ true
-tree-passed k n points order w = not-false (isShelf k n points order) (w .fails 0)
+pub tree-passed : (s : Stock) (o : Order) → Passed (treeRefusals s o) → isShelf s o ≡ true
+tree-passed s o w = not-false (isShelf s o) (w .fails 0)
 
 -- ---- the calls
 -- What the build call has tested.
-pub record BuildPassed (k n : ℕ) (points : List ℤ) (order : List ℕ) : Type 0 where
-  pub tested : TestedPoints k n points
-  pub room : n ≤ length order
+pub record BuildPassed (s : Stock) (o : Order) : Type 0 where
+  pub tested : TestedPoints s
+  pub room : slotsOf s ≤ length (o .slots)
 
-module _ (k n : ℕ) (points : List ℤ) (order : List ℕ) where
-  tests-passed : Passed (buildRefusals k n points order) → BuildPassed k n points order
+module _ (s : Stock) (o : Order) where
+  tests-passed : Passed (buildRefusals s o) → BuildPassed s o
   tests-passed w =
-      let a = passed-parts (pointsRefusals k n points) (roomRefusals n order ++ coordinateRefusals points) w in
-      let b = passed-parts (roomRefusals n order) (coordinateRefusals points) (a .1) in
-      record { tested = points-passed k n points (a .0) (b .1); room = room-passed n order (b .0) }
+      let R : List Refusal = roomRefusals (slotsOf s) (o .slots) in
+      let a = passed-parts (pointsRefusals s) (R ++ coordinateRefusals (s .points)) w in
+      let b = passed-parts R (coordinateRefusals (s .points)) (a .1) in
+      record { tested = points-passed s (a .0) (b .1); room = room-passed (slotsOf s) (o .slots) (b .0) }
 
   -- "Build: 1 to 5."
-  pub build-passed : buildAnswer k n points order ≡ 0 → BuildPassed k n points order
-  build-passed e = tests-passed (record { fails = build-lowest k n points order .done e })
+  pub build-passed : buildAnswer s o ≡ 0 → BuildPassed s o
+  build-passed e = tests-passed (record { fails = build-lowest s o .done e })
 
   -- "Check: 1 to 5, 9."
-  pub check-passed : checkAnswer k n points order ≡ 0 → BuildPassed k n points order × (isShelf k n points order ≡ true)
+  pub check-passed : checkAnswer s o ≡ 0 → BuildPassed s o × (isShelf s o ≡ true)
   check-passed e =
-      let all : Passed (checkRefusals k n points order) = record { fails = check-lowest k n points order .done e } in
-      let a = passed-parts (buildRefusals k n points order) (treeRefusals k n points order) all in
-      (tests-passed (a .0), tree-passed k n points order (a .1))
+      let all : Passed (checkRefusals s o) = record { fails = check-lowest s o .done e } in
+      let a = passed-parts (buildRefusals s o) (treeRefusals s o) all in
+      (tests-passed (a .0), tree-passed s o (a .1))
 
 -- What the list call has tested.
-pub record ListPassed (k n h : ℕ) (points : List ℤ) (order : List ℕ) (normals offsets : List ℤ) (list : List ℕ) : Type 0 where
-  pub tested : TestedPoints k n points
-  pub room : n ≤ length order
-  pub list-room : n ≤ length list
-  pub faced : TestedFaces k h normals offsets
-  pub shelf : isShelf k n points order ≡ true
+pub record ListPassed (s : Stock) (o : Order) (f : Faces) (list : List ℕ) : Type 0 where
+  pub tested : TestedPoints s
+  pub room : slotsOf s ≤ length (o .slots)
+  pub list-room : slotsOf s ≤ length list
+  pub faced : TestedFaces (s .k) f
+  pub shelf : isShelf s o ≡ true
 
 -- "List: 1 to 9."
-pub list-passed : (k n h : ℕ) (points : List ℤ) (order : List ℕ) (normals offsets : List ℤ) (list : List ℕ)
-    → listCode k n h points order normals offsets list ≡ 0 → ListPassed k n h points order normals offsets list
-list-passed k n h points order normals offsets list e =
-    let P : List Refusal = pointsRefusals k n points in
-    let O : List Refusal = roomRefusals n order in
-    let L : List Refusal = roomRefusals n list in
-    let C : List Refusal = coordinateRefusals points in
-    let F : List Refusal = faceRefusals k h normals offsets in
-    let T : List Refusal = treeRefusals k n points order in
-    let a = passed-parts P (O ++ L ++ C ++ F ++ T) (record { fails = list-lowest k n h points order normals offsets list .done e }) in
+pub list-passed : (s : Stock) (o : Order) (f : Faces) (list : List ℕ) → listCode s o f list ≡ 0 → ListPassed s o f list
+list-passed s o f list e =
+    let P : List Refusal = pointsRefusals s in
+    let O : List Refusal = roomRefusals (slotsOf s) (o .slots) in
+    let L : List Refusal = roomRefusals (slotsOf s) list in
+    let C : List Refusal = coordinateRefusals (s .points) in
+    let F : List Refusal = faceRefusals (s .k) f in
+    let T : List Refusal = treeRefusals s o in
+    let a = passed-parts P (O ++ L ++ C ++ F ++ T) (record { fails = list-lowest s o f list .done e }) in
     let b = passed-parts O (L ++ C ++ F ++ T) (a .1) in
     let c = passed-parts L (C ++ F ++ T) (b .1) in
     let d = passed-parts C (F ++ T) (c .1) in
-    let f = passed-parts F T (d .1) in
+    let g = passed-parts F T (d .1) in
     record {
-      tested = points-passed k n points (a .0) (d .0);
-      room = room-passed n order (b .0);
-      list-room = room-passed n list (c .0);
-      faced = faces-passed k h normals offsets (f .0);
-      shelf = tree-passed k n points order (f .1);
+      tested = points-passed s (a .0) (d .0);
+      room = room-passed (slotsOf s) (o .slots) (b .0);
+      list-room = room-passed (slotsOf s) list (c .0);
+      faced = faces-passed (s .k) f (g .0);
+      shelf = tree-passed s o (g .1);
     }
 
--- What the one-point test has tested: a shelf of one point, and the faces.
-pub record PlacePassed (k h : ℕ) (point normals offsets : List ℤ) : Type 0 where
-  pub tested : TestedPoints k 1 point
-  pub faced : TestedFaces k h normals offsets
+-- What the one-point test has tested: a stock of one point, and the faces.
+pub record PlacePassed (k : ℕ) (point : List ℤ) (f : Faces) : Type 0 where
+  pub tested : TestedPoints (stock k 1 point)
+  pub faced : TestedFaces k f
 
 -- "One-point test: 1, 3, 5 to 8."
-pub place-passed : (k h : ℕ) (point normals offsets : List ℤ) → placeCode k h point normals offsets ≡ 0 → PlacePassed k h point normals offsets
-place-passed k h point normals offsets e =
+pub place-passed : (k : ℕ) (point : List ℤ) (f : Faces) → placeCode k point f ≡ 0 → PlacePassed k point f
+place-passed k point f e =
     let D : List Refusal = dimensionRefusals k in
     let L : List Refusal = lengthRefusals k point in
     let C : List Refusal = coordinateRefusals point in
-    let F : List Refusal = faceRefusals k h normals offsets in
-    let a = passed-parts D (L ++ C ++ F) (record { fails = place-lowest k h point normals offsets .done e }) in
+    let F : List Refusal = faceRefusals k f in
+    let a = passed-parts D (L ++ C ++ F) (record { fails = place-lowest k point f .done e }) in
     let b = passed-parts L (C ++ F) (a .1) in
     let c = passed-parts C F (b .1) in
     let d = dimension-passed k (a .0) in
+    let size : length point ≡ k * 1 = omega (arith, length-passed k point (b .0)) in
     record {
       tested = record {
         some = d .0;
         few = d .1;
         many = omega arith;
-        size = omega (arith, length-passed k point (b .0));
-        ranges = coordinates-passed point (c .0);
+        size = size;
+        each = λ p e. record { ranges = λ i l. coordinates-passed point (c .0) _ (coordinate-place k 1 point size (ltb-true p 1 e) l) };
       };
-      faced = faces-passed k h normals offsets (c .1);
+      faced = faces-passed k f (c .1);
     }

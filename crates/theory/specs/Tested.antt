@@ -2,13 +2,16 @@
 use mathlib.Core.Path.{_≡_}
 use mathlib.Core.Bool.{true}
 use mathlib.Core.List.{List}
-use Prim.Native.Nat.{ℕ, _*_, _≤_, _<_}
+use Prim.Native.Nat.{ℕ, _+_, _*_, _≤_, _<_}
+use native.Mathlib.Nat.{mul-comm, mul-le-mul-right}
+use native.Mathlib.Omega.{arith}
 use lib.ListN.{length, getD}
 use lib.IntN.{ℤ, pos, negsuc}
 use lib.Signed.{_≤ℤ_, leZ}
 use Rattle.whole.specs.Order.{leZ-le}
 use Rattle.terms.specs.Tests.{every}
-use Rattle.terms.specs.Points.{within}
+use Rattle.terms.specs.Lent.{Stock, Faces}
+use Rattle.terms.specs.Points.{pointOf, belongsTo, within}
 use Rattle.theory.specs.Flags.{and-true}
 use Rattle.theory.specs.Counting.{every-at}
 
@@ -17,21 +20,29 @@ pub record Between (least z greatest : ℤ) : Type 0 where
   pub from-least : least ≤ℤ z
   pub to-greatest : z ≤ℤ greatest
 
--- The points of m numbers, k coordinates each: 1, 2, 3 and 5 were tested.
-pub record TestedPoints (k m : ℕ) (points : List ℤ) : Type 0 where
-  pub some : 1 ≤ k
-  pub few : k ≤ 4
-  pub many : m ≤ 65535
-  pub size : length points ≡ k * m
-  pub ranges : (i : ℕ) → i < length points → Between (negsuc 32767) (getD points i (pos 0)) (pos 32767)
+-- The first k coordinates of a point are in range.
+pub record Coordinates (k : ℕ) (x : ℕ → ℤ) : Type 0 where
+  pub ranges : (d : ℕ) → d < k → Between (negsuc 32767) (x d) (pos 32767)
 
--- The h faces, k components each: 6, 7 and 8 were tested.
-pub record TestedFaces (k h : ℕ) (normals offsets : List ℤ) : Type 0 where
-  pub faces : h ≤ 32
-  pub normals-size : length normals ≡ k * h
-  pub offsets-size : length offsets ≡ h
-  pub components : (i : ℕ) → i < length normals → Between (negsuc 32766) (getD normals i (pos 0)) (pos 32767)
-  pub offsets-range : (i : ℕ) → i < length offsets → Between (negsuc 8589934591) (getD offsets i (pos 0)) (pos 8589934592)
+-- The stock, whose 1, 2, 3 and 5 were tested: the points of the numbers that belong are in range.
+pub record TestedPoints (s : Stock) : Type 0 where
+  pub some : 1 ≤ s .k
+  pub few : s .k ≤ 4
+  pub many : s .n ≤ 65535
+  pub size : length (s .points) ≡ s .k * s .n
+  pub each : (p : ℕ) → belongsTo s p ≡ true → Coordinates (s .k) (pointOf s p)
+
+-- Where point p's coordinate d lies.
+pub coordinate-place : (k n : ℕ) (points : List ℤ) → length points ≡ k * n → {p d : ℕ} → p < n → d < k → p * k + d < length points
+coordinate-place k n points size l m = omega (arith, mul-le-mul-right k l, mul-comm k n)
+
+-- The faces, whose 6, 7 and 8 were tested.
+pub record TestedFaces (k : ℕ) (f : Faces) : Type 0 where
+  pub many : f .h ≤ 32
+  pub normals-size : length (f .normals) ≡ k * f .h
+  pub offsets-size : length (f .offsets) ≡ f .h
+  pub components : (i : ℕ) → i < length (f .normals) → Between (negsuc 32766) (getD (f .normals) i (pos 0)) (pos 32767)
+  pub offsets-range : (i : ℕ) → i < length (f .offsets) → Between (negsuc 8589934591) (getD (f .offsets) i (pos 0)) (pos 8589934592)
 
 -- A range test passed by a whole list, item by item.
 pub within-each : (least greatest : ℤ) (xs : List ℤ) → every (within least greatest) xs ≡ true

@@ -5,16 +5,17 @@ use mathlib.Core.Bool.{Bool, true, false, _&&_}
 use mathlib.Core.List.{List, [], _∷_}
 use Prim.Native.Nat.{ℕ, zero, suc, _≤_}
 use native.Mathlib.Omega.{arith}
-use lib.ListN.{length, take}
+use lib.ListN.{length}
 use lib.Seq.{length-take-le}
 use lib.IntN.{ℤ}
 use lib.Dec.{eqb}
 use borrow.Author.Tests.{ne-eqb}
 use Rattle.terms.specs.Tests.{bit, count, every}
-use Rattle.terms.specs.Points.{coord, below}
+use Rattle.terms.specs.Lent.{Stock, Order}
+use Rattle.terms.specs.Points.{pointOf, belongsTo, slotsOf}
 use Rattle.terms.specs.Before.{before}
 use Rattle.terms.specs.Run.{axis, node, lefts, rights}
-use Rattle.terms.specs.Tree.{members, treeRun, eachOnce, isTree, isShelf}
+use Rattle.terms.specs.Tree.{members, treeRun, eachOnce, isTree, shelfRun, isShelf}
 use Rattle.theory.specs.Flags.{clash, same-test, and-true, true-and}
 use Rattle.theory.specs.Counting.{Distinct, at-every, bit-le}
 use Rattle.theory.specs.RunParts.{Parts, parts, count-run}
@@ -78,9 +79,9 @@ tree-test k at belongs m run under size = same-test
     true-and (distinct-each belongs m under size (p .0) (tree-distinct (length run) k at 0 run (p .1))) (p .1))
 
 -- "A check says yes (0) exactly for that order": of n slots it is asked that their numbers are below n and that they are a tree.
-pub shelf-test : (k n : ℕ) (points : List ℤ) (order : List ℕ) → n ≤ length order
-    → isShelf k n points order ≡ every (below n) (take n order) && treeRun n k (coord k points) 0 (take n order)
-shelf-test k n points order room =
-    let size : length (take n order) ≡ n = length-take-le n order room in
-    let many : length (members (below n) n) ≡ n = ap length (members-shelf n) ∙ length-rising 0 n in
-    tree-test k (coord k points) (below n) n (take n order) (below-under n) (size ∙ sym many) ∙ rw size
+pub shelf-test : (s : Stock) (o : Order) → slotsOf s ≤ length (o .slots)
+    → isShelf s o ≡ every (belongsTo s) (shelfRun s o) && treeRun (slotsOf s) (s .k) (pointOf s) 0 (shelfRun s o)
+shelf-test s o room =
+    let size : length (shelfRun s o) ≡ slotsOf s = length-take-le (slotsOf s) (o .slots) room in
+    let many : length (members (belongsTo s) (s .n)) ≡ slotsOf s = ap length (members-shelf (s .n)) ∙ length-rising 0 (s .n) in
+    tree-test (s .k) (pointOf s) (belongsTo s) (s .n) (shelfRun s o) (below-under (s .n)) (size ∙ sym many) ∙ rw size

@@ -11,10 +11,11 @@ use lib.IntN.{ℤ}
 use lib.Dec.{eqb}
 use borrow.Author.Tests.{eq-eqb, eqb-true}
 use Rattle.terms.specs.Tests.{bit, count}
-use Rattle.terms.specs.Points.{coord, below}
+use Rattle.terms.specs.Lent.{Stock, Order}
+use Rattle.terms.specs.Points.{pointOf, belongsTo}
 use Rattle.terms.specs.Before.{before}
 use Rattle.terms.specs.Run.{middle, axis, node, lefts, rights}
-use Rattle.terms.specs.Tree.{treeRun, eachOnce, isTree, isShelf}
+use Rattle.terms.specs.Tree.{treeRun, eachOnce, isTree, shelfRun, isShelf}
 use Rattle.theory.specs.Flags.{clash, and-true, and-yes, and-no}
 use Rattle.theory.specs.Counting.{Same, same-sym, same-length, count-yes, count-no, count-same, count-both-le}
 use Rattle.theory.specs.RunParts.{Parts, parts, left-length, whole-run, count-run}
@@ -131,5 +132,5 @@ one-tree k at belongs m xs ys under a b =
     let q = and-true (eachOnce belongs m ys) b in
     one-run (length xs) (length ys) k at 0 xs ys (p .1) (q .1) (each-same belongs m under (p .0) (q .0))
 
-pub one-shelf : (k n : ℕ) (points : List ℤ) (o q : List ℕ) → isShelf k n points o ≡ true → isShelf k n points q ≡ true → take n o ≡ take n q
-one-shelf k n points o q a b = one-tree k (coord k points) (below n) n (take n o) (take n q) (below-under n) a b
+pub one-shelf : (s : Stock) (o q : Order) → isShelf s o ≡ true → isShelf s q ≡ true → shelfRun s o ≡ shelfRun s q
+one-shelf s o q a b = one-tree (s .k) (pointOf s) (belongsTo s) (s .n) (shelfRun s o) (shelfRun s q) (below-under (s .n)) a b

@@ -14,6 +14,7 @@ use borrow.Author.Count.{below-more}
 use Rattle.whole.specs.Order.{lesser, greater}
 use Rattle.whole.specs.Choices.{atLeast, Choice, least-choice, greatest-choice}
 use Rattle.terms.specs.Tests.{rising}
+use Rattle.terms.specs.Lent.{stock}
 use Rattle.terms.specs.Points.{coord, lone}
 use Rattle.terms.specs.Box.{Box, rootBox}
 use Rattle.theory.specs.Stores.{stored}
@@ -106,7 +107,7 @@ root-ranges {k} {points} order some w same =
     all d l = root-between (coord k points) d order some (λ i m. w .each i m .ranges .ranges d l)
 
 -- Since 24 is a multiple of each k, a lane has coordinates of one dimension.
-pub lane-dimension : {k m : ℕ} {points : List ℤ} → TestedPoints k m points → (u : ℕ) → u % 24 % k ≡ u % k
+pub lane-dimension : {k m : ℕ} {points : List ℤ} → TestedPoints (stock k m points) → (u : ℕ) → u % 24 % k ≡ u % k
 lane-dimension {k} t u = go k (t .some) (t .few)
   where
     go : (k : ℕ) → 1 ≤ k → k ≤ 4 → u % 24 % k ≡ u % k
@@ -117,7 +118,7 @@ lane-dimension {k} t u = go k (t .some) (t .few)
     go (suc (suc (suc (suc zero)))) some few = omega arith
     go (suc (suc (suc (suc (suc k))))) some few = absurd (omega arith)
 
-module _ {k m : ℕ} {points : List ℤ} (some : 0 < m) (t : TestedPoints k m points) where
+module _ {k m : ℕ} {points : List ℤ} (some : 0 < m) (t : TestedPoints (stock k m points)) where
   -- What comes before each coordinate of dimension d, and after all that do, stands in its place once all coordinates are dealt to k places.
   row-root : {le : ℤ → ℤ → Type 0} {pick : ℤ → ℤ → ℤ} {start bound : ℤ} {row : List ℤ} (d : ℕ) → d < k → Choice le pick → Row le k (lone points) start (length points) row
       → le bound start → ((p : ℕ) → p < m → le bound (coord k points p d)) → (((p : ℕ) → p < m → le (lone row d) (coord k points p d)) → le (lone row d) bound)

@@ -8,6 +8,7 @@ use lib.ListN.{length, getD}
 use lib.Seq.{take-length}
 use lib.IntN.{ℤ}
 use Rattle.terms.specs.Tests.{keep, rising}
+use Rattle.terms.specs.Lent.{Faces, stock}
 use Rattle.terms.specs.Points.{below, coord}
 use Rattle.terms.specs.Tree.{isTree, eachOnce}
 use Rattle.terms.specs.Box.{Box, rootBox}
@@ -76,7 +77,7 @@ listed-empty g at [] (x ∷ xs) e l = absurd (omega arith)
 listed-empty g at (x ∷ xs) list e l = absurd (omega arith)
 
 -- Every slot of a shelf holds the number of a point.
-pub shelf-known : {k m : ℕ} {points : List ℤ} {order : List ℕ} → TestedPoints k m points → isTree k (coord k points) (below m) m order ≡ true
+pub shelf-known : {k m : ℕ} {points : List ℤ} {order : List ℕ} → TestedPoints (stock k m points) → isTree k (coord k points) (below m) m order ≡ true
     → Known k points order
 unfolding isTree
 shelf-known {k} {m} {points} {order} p t = record { each = each }
@@ -85,10 +86,10 @@ shelf-known {k} {m} {points} {order} p t = record { each = each }
     each i l = has-point p (shelf-below m order (and-true (eachOnce (below m) m order) t .0) i l)
 
 -- The root of a shelf that is not empty can be walked.
-pub walkable-root : {k m : ℕ} {points : List ℤ} {order : List ℕ} {normals offsets : List ℤ} {list : List ℕ} {b : Box}
-    → TestedPoints k m points → TestedFaces k (length offsets) normals offsets → length list ≡ length order
+pub walkable-root : {k m : ℕ} {points : List ℤ} {order : List ℕ} {f : Faces} {list : List ℕ} {b : Box}
+    → TestedPoints (stock k m points) → TestedFaces k f → length list ≡ length order
     → isTree k (coord k points) (below m) m order ≡ true → 0 < length order → Alike k b (rootBox (coord k points) order)
-    → Walkable k points order normals offsets 0 (length order) 0 b list 0 0 0
+    → Walkable k points order f 0 (length order) 0 b list 0 0 0
 walkable-root {m = m} {order = order} p f size t some same =
     let known = shelf-known p t in
     record {

@@ -13,10 +13,11 @@ ghost use mathlib.Core.Path.{_≡_};
 ghost use mathlib.Core.Bool.{true};
 ghost use Prim.Native.Nat.{_+_, _-_, _/_, _^_, _≤_, _<_};
 ghost use lib.ListN.{length};
+ghost use Rattle.terms.specs.Lent.{facesOf};
 ghost use Rattle.terms.specs.Box.{boxOf, leftBox, rightBox};
-ghost use Rattle.terms.specs.Region.{isOpen};
+ghost use Rattle.terms.specs.Region.{region, isOpen};
 ghost use Rattle.walk.specs.Fill.{Placed};
-ghost use Rattle.walk.specs.Descent.{BranchAsks, BranchDoes, Child, regionOf};
+ghost use Rattle.walk.specs.Descent.{BranchAsks, BranchDoes, Child};
 
 // A branch: where its run of slots starts and how long it is, the dimension on which its node splits, how many faces are live for it, and its
 // box.
@@ -78,8 +79,8 @@ pub fn branch(
     list: &mut [u32],
     tally: Tally,
 ) -> Tally
-    requires { ⌜ BranchAsks k (now points) (now order) (now normals) (now offsets) run (now live) (now list) tally ⌝ }
-    ensures { λ r. ⌜ BranchDoes k (now (points .entry)) (now (order .entry)) (now (normals .entry)) (now (offsets .entry)) run (now (list .entry)) (now (list .exit)) tally r ⌝ }
+    requires { ⌜ BranchAsks k (now points) (now order) (facesOf (now normals) (now offsets)) run (now live) (now list) tally ⌝ }
+    ensures { λ r. ⌜ BranchDoes k (now (points .entry)) (now (order .entry)) (facesOf (now (normals .entry)) (now (offsets .entry))) run (now (list .entry)) (now (list .exit)) tally r ⌝ }
 {
     let a = run.start;
     let c = run.length;
@@ -119,10 +120,10 @@ fn node(
     list: &mut [u32],
     tally: Tally,
 ) -> Tally
-    requires { ⌜ BranchAsks k (now points) (now order) (now normals) (now offsets) run (now live) (now list) tally ⌝ }
+    requires { ⌜ BranchAsks k (now points) (now order) (facesOf (now normals) (now offsets)) run (now live) (now list) tally ⌝ }
     requires { ⌜ 0 < run .length ⌝ }
-    requires { ⌜ isOpen (regionOf k (now normals) (now offsets)) (boxOf (run .rows)) ≡ true ⌝ }
-    ensures { λ r. ⌜ BranchDoes k (now (points .entry)) (now (order .entry)) (now (normals .entry)) (now (offsets .entry)) run (now (list .entry)) (now (list .exit)) tally r ⌝ }
+    requires { ⌜ isOpen (region k (facesOf (now normals) (now offsets))) (boxOf (run .rows)) ≡ true ⌝ }
+    ensures { λ r. ⌜ BranchDoes k (now (points .entry)) (now (order .entry)) (facesOf (now (normals .entry)) (now (offsets .entry))) run (now (list .entry)) (now (list .exit)) tally r ⌝ }
 {
     let middle = run.start + run.length / 2;
     let p = order[middle];

@@ -12,6 +12,7 @@ ghost use mathlib.Core.Path.{_≡_};
 ghost use mathlib.Core.Bool.{true};
 ghost use Prim.Native.Nat.{_-_};
 ghost use lib.ListN.{length};
+ghost use Rattle.terms.specs.Lent.{facesOf, stock};
 ghost use Rattle.terms.specs.Points.{coord, below};
 ghost use Rattle.terms.specs.Tree.{isTree};
 ghost use Rattle.terms.specs.Region.{region};
@@ -34,11 +35,11 @@ pub fn walk(
     offsets: &[i64],
     list: &mut [u32],
 ) -> Tally
-    requires { ⌜ TestedPoints k m (now points) ⌝ }
-    requires { ⌜ TestedFaces k (length (now offsets)) (now normals) (now offsets) ⌝ }
+    requires { ⌜ TestedPoints (stock k m (now points)) ⌝ }
+    requires { ⌜ TestedFaces k (facesOf (now normals) (now offsets)) ⌝ }
     requires { ⌜ length (now list) ≡ length (now order) ⌝ }
     requires { ⌜ isTree k (coord k (now points)) (below m) m (now order) ≡ true ⌝ }
-    ensures { λ r. ⌜ Listed (region k (length (now (offsets .entry))) (now (normals .entry)) (now (offsets .entry))) (coord k (now (points .entry)))
+    ensures { λ r. ⌜ Listed (region k (facesOf (now (normals .entry)) (now (offsets .entry)))) (coord k (now (points .entry)))
         (now (order .entry)) (now (list .exit)) (r .inside) (length (now (order .entry)) - r .inside) (r .visits) ⌝ }
 {
     let none = Tally {

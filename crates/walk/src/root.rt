@@ -4,6 +4,7 @@ ghost use mathlib.Core.Path.{_≡_};
 ghost use mathlib.Core.Bool.{cond};
 ghost use Prim.Native.Nat.{_+_, _%_, _≤_, _<_};
 ghost use lib.ListN.{length};
+ghost use Rattle.terms.specs.Lent.{stock};
 ghost use Rattle.terms.specs.Tests.{rising};
 ghost use Rattle.terms.specs.Points.{coord, lone};
 ghost use Rattle.terms.specs.Box.{boxOf, rootBox};
@@ -70,7 +71,7 @@ fn deal_all(points: &[i32]) -> Lanes
 // The root box of m numbers: in each dimension the least and the greatest coordinate, put together from the lanes of that dimension.
 pub fn root_box(k: usize, m: usize, points: &[i32]) -> CornerRows
     requires { ⌜ 0 < m ⌝ }
-    requires { ⌜ TestedPoints k m (now points) ⌝ }
+    requires { ⌜ TestedPoints (stock k m (now points)) ⌝ }
     ensures { λ r. ⌜ Alike k (boxOf r) (rootBox (coord k (now (points .entry))) (rising 0 m)) ⌝ }
 {
     let lanes = deal_all(points);

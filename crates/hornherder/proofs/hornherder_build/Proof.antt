@@ -3,28 +3,29 @@ use mathlib.Core.Path.{sym}
 use lib.ListN.{length}
 use lib.Seq.{length-take-le}
 use borrow.Author.Needs.{needs}
+use Rattle.terms.specs.Lent.{stock}
 use Rattle.hornherder.specs.Outcomes.{StockTested, stock-tested, build-refused, build-done}
 use Rattle.hornherder.proofs.hornherder_build.Statement.{statement}
 use Rattle.hornherder.proofs.hornherder_build.Tie as tie
 
 -- What 1 to 5 have tested.
-stock : (c : tie.Else1) → let a = c .before .before .before .args in StockTested (a .k) (a .n) (a .points .now) (length (a .order .now)) (length (a .order .now))
-stock c = stock-tested _ _ _ _ _ (c .before .stock-refusal .ensures) (c .if1 .left)
+tested : (c : tie.Else1) → let a = c .before .before .before .args in StockTested (stock (a .k) (a .n) (a .points .now)) (length (a .order .now)) (length (a .order .now))
+tested c = stock-tested _ _ _ (c .before .stock-refusal .ensures) (c .if1 .left)
 
 stock-refusal-requires : tie.Need-stock-refusal-requires
 stock-refusal-requires c κs = search needs
 
 returns : tie.Need-returns
-returns c = build-refused _ _ _ _ (c .before .stock-refusal .ensures) (c .if1 .taken)
+returns c = build-refused _ _ (c .before .stock-refusal .ensures) (c .if1 .taken)
 
 slice-relend-prefix-build : tie.Need-slice-relend-prefix-build
-slice-relend-prefix-build c = stock c .order-room
+slice-relend-prefix-build c = tested c .order-room
 
 slice-aggregate-build : tie.Need-slice-aggregate-build
-slice-aggregate-build c = sym (length-take-le _ _ (stock (c .before) .order-room))
+slice-aggregate-build c = sym (length-take-le _ _ (tested (c .before) .order-room))
 
 build-requires : tie.Need-build-requires
-build-requires c κs = let s = stock (c .before) in (s .tested, length-take-le _ _ (s .order-room))
+build-requires c κs = let s = tested (c .before) in (s .tested, length-take-le _ _ (s .order-room))
 
 same-length : tie.Need-same-length
 same-length c = search needs
@@ -32,7 +33,7 @@ same-length c = search needs
 returns-2 : tie.Need-returns-2
 returns-2 c =
     let e = c .before .before .before .before in
-    build-done _ _ _ _ (e .before .stock-refusal .ensures) (e .if1 .left) _ (c .before .before .build .ensures)
+    build-done _ _ (e .before .stock-refusal .ensures) (e .if1 .left) _ (c .before .before .build .ensures)
 
 pub hornherder-build-spec : {M : Type 1} → statement M
 hornherder-build-spec =

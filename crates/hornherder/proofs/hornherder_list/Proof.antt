@@ -5,6 +5,7 @@ use native.Mathlib.Omega.{arith}
 use lib.ListN.{length, take}
 use lib.Seq.{length-take-le}
 use borrow.Author.Needs.{needs}
+use Rattle.terms.specs.Lent.{stock, orderOf, faces}
 use Rattle.theory.specs.RefusalsPassed.{ListPassed, list-passed}
 use Rattle.hornherder.specs.Outcomes.{AtMost, counts-at-most, list-coded, list-refused, list-done}
 use Rattle.hornherder.proofs.hornherder_list.Statement.{statement}
@@ -12,8 +13,8 @@ use Rattle.hornherder.proofs.hornherder_list.Tie as tie
 
 -- What 1 to 9 have tested.
 passed : (c : tie.Else1) → let a = c .before .before .before .before .args in
-    ListPassed (a .k) (a .n) (a .h) (a .points .now) (a .order .now) (a .normals .now) (a .offsets .now) (a .list .now)
-passed c = list-passed _ _ _ _ _ _ _ _ (sym (list-coded _ _ _ _ _ _ _ _ (c .before .list-refusal .ensures)) ∙ c .if1 .left)
+    ListPassed (stock (a .k) (a .n) (a .points .now)) (orderOf (a .order .now)) (faces (a .h) (a .normals .now) (a .offsets .now)) (a .list .now)
+passed c = list-passed _ _ _ _ (sym (list-coded _ _ _ _ (c .before .list-refusal .ensures)) ∙ c .if1 .left)
 
 -- The walk's part of the order is its first n slots.
 whole : (c : tie.Else1) → let n = c .before .before .before .before .args .n in n - 0 ≡ n
@@ -33,7 +34,7 @@ list-refusal-requires : tie.Need-list-refusal-requires
 list-refusal-requires c κs = search needs
 
 returns : tie.Need-returns
-returns c = list-refused _ _ _ _ _ _ _ _ (c .before .list-refusal .ensures) (c .if1 .taken)
+returns c = list-refused _ _ _ _ (c .before .list-refusal .ensures) (c .if1 .taken)
 
 sub-walk : tie.Need-sub-walk
 sub-walk c = search needs
@@ -80,7 +81,7 @@ returns-2 : tie.Need-returns-2
 returns-2 c =
     let w = c .before .before .before .before .before in
     let e = w .before .before .before in
-    list-done _ _ _ _ _ _ _ _ (e .before .list-refusal .ensures) (e .if1 .left) _ _ _ _ (rw (whole e, passed e .faced .offsets-size, slots e) at (w .walk .ensures))
+    list-done _ _ _ _ (e .before .list-refusal .ensures) (e .if1 .left) _ _ _ _ (rw (whole e, passed e .faced .offsets-size, slots e) at (w .walk .ensures))
 
 pub hornherder-list-spec : {M : Type 1} → statement M
 hornherder-list-spec =

@@ -3,14 +3,15 @@ use mathlib.Core.Path.{refl}
 use lib.ListN.{length}
 use borrow.Author.Needs.{needs}
 use Rattle.theory.specs.FirstRefusalIsLowest.{risesFrom}
+use Rattle.terms.specs.Lent.{stock}
 use Rattle.hornherder.specs.First.{first-stops, first-goes-on}
 use Rattle.hornherder.specs.Outcomes.{StockTested, stock-tested}
 use Rattle.hornherder.proofs.list_refusal.Statement.{statement}
 use Rattle.hornherder.proofs.list_refusal.Tie as tie
 
 -- What 1 to 5 have tested.
-stock : (c : tie.Else1) → let a = c .before .before .before .args in StockTested (a .k) (a .n) (a .points .now) (length (a .order .now)) (a .places)
-stock c = stock-tested _ _ _ _ _ (c .before .stock-refusal .ensures) (c .if1 .left)
+tested : (c : tie.Else1) → let a = c .before .before .before .args in StockTested (stock (a .k) (a .n) (a .points .now)) (length (a .order .now)) (a .places)
+tested c = stock-tested _ _ _ (c .before .stock-refusal .ensures) (c .if1 .left)
 
 stock-refusal-requires : tie.Need-stock-refusal-requires
 stock-refusal-requires c κs = search needs
@@ -19,7 +20,7 @@ returns : tie.Need-returns
 returns c = first-stops _ (c .before .stock-refusal .ensures) (c .if1 .taken)
 
 face-refusal-requires : tie.Need-face-refusal-requires
-face-refusal-requires c κs = stock c .tested .few
+face-refusal-requires c κs = tested c .tested .few
 
 returns-2 : tie.Need-returns-2
 unfolding risesFrom
@@ -31,7 +32,7 @@ returns-2 c =
     (first-stops _ (c .before .face-refusal .ensures) (c .if2 .taken))
 
 tree-refusal-requires : tie.Need-tree-refusal-requires
-tree-refusal-requires c κs = let s = stock (c .before .before) in (s .tested, s .order-room)
+tree-refusal-requires c κs = let s = tested (c .before .before) in (s .tested, s .order-room)
 
 returns-3 : tie.Need-returns-3
 unfolding risesFrom

@@ -3,6 +3,7 @@ use mathlib.Core.Path.{refl, sym, _∙_}
 use mathlib.Core.List.{_++_}
 use native.Mathlib.Omega.{arith}
 use borrow.Author.Needs.{needs}
+use Rattle.terms.specs.Lent.{faces}
 use Rattle.terms.specs.Refusals.{dimensionRefusals, lengthRefusals, coordinateRefusals, faceRefusals}
 use Rattle.theory.specs.FirstRefusalIsLowest.{risesFrom, first-lowest}
 use Rattle.theory.specs.RefusalsPassed.{passed-parts, dimension-passed}
@@ -16,7 +17,7 @@ point-refusal-requires c κs = search needs
 returns : tie.Need-returns
 returns c =
     let a = c .before .before .args in
-    first-stops (faceRefusals (a .k) (a .h) (a .normals .now) (a .offsets .now)) (c .before .point-refusal .ensures) (c .if1 .taken)
+    first-stops (faceRefusals (a .k) (faces (a .h) (a .normals .now) (a .offsets .now))) (c .before .point-refusal .ensures) (c .if1 .taken)
 
 face-refusal-requires : tie.Need-face-refusal-requires
 unfolding risesFrom

@@ -1,21 +1,21 @@
 -- The place of the coordinate is within the points, and a tested coordinate lifts to a number below 65,536, so that nothing wraps.
 use native.Mathlib.Omega.{arith}
 use Rattle.terms.specs.Points.{coord}
-use Rattle.arrange.specs.Key.{keyOf, coordinate-place, coordinate-range, Lifts, lifts}
+use Rattle.arrange.specs.Key.{keyOf, key-place, coordinate-range, Lifts, lifts}
 use Rattle.arrange.proofs.key.key.Statement.{statement}
 use Rattle.arrange.proofs.key.key.Tie as tie
 
 mul-i : tie.Need-mul-i
-mul-i c = omega (arith, coordinate-place (c .pre))
+mul-i c = omega (arith, key-place (c .pre))
 
 add-i : tie.Need-add-i
-add-i c = omega (arith, coordinate-place (c .pre))
+add-i c = omega (arith, key-place (c .pre))
 
 mul-lifted : tie.Need-mul-lifted
-mul-lifted c = omega (arith, coordinate-place (c .pre))
+mul-lifted c = omega (arith, key-place (c .pre))
 
 shared-slice-copy-out-lifted : tie.Need-shared-slice-copy-out-lifted
-shared-slice-copy-out-lifted c = coordinate-place (c .pre)
+shared-slice-copy-out-lifted c = key-place (c .pre)
 
 -- what is read of the points
 coordinate : (c : tie.After-lifted) → Lifts (coord (c .before .args .k) (c .before .args .points .now) (c .before .args .p) (c .before .args .s))

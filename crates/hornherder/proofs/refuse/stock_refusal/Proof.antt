@@ -8,6 +8,7 @@ use native.Mathlib.Nat.{mul-le-mul}
 use lib.Dec.{leb}
 use borrow.Author.Needs.{needs}
 use borrow.Author.Tests.{lt-ltb, le-ltb, leb-true, eq-eqb, ne-eqb}
+use Rattle.terms.specs.Lent.{stock}
 use Rattle.terms.specs.Refusals.{Refusal, dimensionRefusals, sizeRefusals, pointsRefusals}
 use Rattle.theory.specs.Flags.{and-true, not-false}
 use Rattle.hornherder.specs.First.{First, first-none, first-holds, first-passes}
@@ -24,12 +25,12 @@ past-2 c rest = past-1 (c .before) (first-passes (le-ltb _ _ (c .if2 .left)) res
 
 -- Past the points' shape, and past the room for the order and the list.
 past-3 : (c : tie.Else3) {rs : List Refusal} {r : ℕ} → First rs r
-    → First (pointsRefusals (c .before .before .before .before .args .k) (c .before .before .before .before .args .n) (c .before .before .before .before .args .points .now) ++ rs) r
+    → let a = c .before .before .before .before .args in First (pointsRefusals (stock (a .k) (a .n) (a .points .now)) ++ rs) r
 past-3 c rest = past-2 (c .before) (first-passes (ap not (eq-eqb _ _ (c .if3 .left))) rest)
 
 past-5 : (c : tie.Else5) {rs : List Refusal} {r : ℕ} → First rs r
     → let a = c .before .before .before .before .before .before .args in
-    First (pointsRefusals (a .k) (a .n) (a .points .now) ++ shortRefusals (a .n) (a .slots) ++ shortRefusals (a .n) (a .places) ++ rs) r
+    First (pointsRefusals (stock (a .k) (a .n) (a .points .now)) ++ shortRefusals (a .n) (a .slots) ++ shortRefusals (a .n) (a .places) ++ rs) r
 past-5 c rest = past-3 (c .before .before) (first-passes (le-ltb _ _ (c .before .if4 .left)) (first-passes (le-ltb _ _ (c .if5 .left)) rest))
 
 is-dimension-requires : tie.Need-is-dimension-requires

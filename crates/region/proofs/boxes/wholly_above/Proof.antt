@@ -4,6 +4,7 @@ use native.Mathlib.Omega.{arith}
 use borrow.Author.Needs.{sfits-of, needs}
 use mir.Facts.{toZ-ofZ}
 use Rattle.whole.specs.Fits.{sfits-mag}
+use Rattle.terms.specs.Lent.{faces}
 use Rattle.terms.specs.Box.{boxOf}
 use Rattle.terms.specs.Region.{region, reach, aboveAt, against}
 use Rattle.region.specs.Ranges.{face-components}
@@ -28,7 +29,7 @@ above-requires c κs = search needs
 returns : tie.Need-returns
 returns c =
     let s = c .before .before .before .before .before in
-    let g = region (s .args .k) (s .args .h) (s .args .normals .now) (s .args .offsets .now) in
+    let g = region (s .args .k) (faces (s .args .h) (s .args .normals .now) (s .args .offsets .now)) in
     let reached : c .before .before .corner-sum .result ≡ reach g (s .args .i) (against g (s .args .i) (boxOf (s .args .rows))) =
     c .before .before .corner-sum .ensures in
     c .above .ensures g (s .args .i) (sym (toZ-ofZ (sfits-mag (c .before .above-arg .given))))

@@ -5,6 +5,7 @@ use Prim.Native.Nat.{ℕ, _≤_, _<_, _-_}
 use native.Mathlib.Omega.{arith}
 use borrow.Author.Count.{below-more}
 use borrow.Author.Needs.{needs}
+use Rattle.terms.specs.Lent.{faces}
 use Rattle.terms.specs.Points.{coord}
 use Rattle.terms.specs.Region.{region, above, inside}
 use Rattle.theory.specs.Flags.{not-true, not-false}
@@ -15,7 +16,7 @@ use Rattle.region.proofs.faces.inside_all.Tie as tie
 
 abbrev Inv-loop : tie.InvT-loop
 Inv-loop k h points normals offsets p x i₀ i =
-    (i ≤ h) × ((j : ℕ) → j < i → above (region k h normals offsets) j (coord k points p) ≡ true)
+    (i ≤ h) × ((j : ℕ) → j < i → above (region k (faces h normals offsets)) j (coord k points p) ≡ true)
 
 abbrev μ-loop : tie.MeasureT-loop
 μ-loop k h points normals offsets p x i₀ i = h - i
@@ -29,7 +30,7 @@ loop-holds c = (omega arith, λ j l. absurd (omega arith))
 point-above-requires : tie.Need-point-above-requires Inv-loop μ-loop
 point-above-requires c κs =
     let s = c .before .before .before in
-    (record { faces = s .pre .0; known = c .loop-test .taken }, c .before .before .point-at .ensures .ranges)
+    (record { all = s .pre .0; known = c .loop-test .taken }, c .before .before .point-at .ensures .ranges)
 
 returns : tie.Need-returns Inv-loop μ-loop
 unfolding inside
@@ -37,7 +38,7 @@ returns c =
     let b = c .before .before in
     let w = b .before .before .point-at .ensures in
     let a = b .before .before .before .args in
-    let g = region (a .k) (a .h) (a .normals .now) (a .offsets .now) in
+    let g = region (a .k) (faces (a .h) (a .normals .now) (a .offsets .now)) in
     let no = not-true (c .before .point-above .result) (c .if1 .taken) in
     sym (one-all-false _ _ (b .before .loop .i, b .loop-test .taken, point-told g w (b .before .loop .i) (c .before .point-above .ensures) no))
 
@@ -52,7 +53,7 @@ loop-again c =
     let b = c .before .before in
     let w = b .before .before .point-at .ensures in
     let a = b .before .before .before .args in
-    let g = region (a .k) (a .h) (a .normals .now) (a .offsets .now) in
+    let g = region (a .k) (faces (a .h) (a .normals .now) (a .offsets .now)) in
     let yes = not-false (c .before .point-above .result) (c .if1 .left) in
     (omega arith, below-more _ (b .before .loop .i) (b .before .loop .inv .1) (point-told g w (b .before .loop .i) (c .before .point-above .ensures) yes))
 

@@ -3,6 +3,7 @@ use mathlib.Core.Logic.{⊎-elim}
 use Prim.Native.Nat.{_-_}
 use native.Mathlib.Omega.{arith}
 use lib.ListN.{getD}
+use Rattle.terms.specs.Lent.{faces}
 use Rattle.terms.specs.Box.{boxOf}
 use Rattle.terms.specs.Region.{region}
 use Rattle.theory.specs.Flags.{not-true, not-false}
@@ -13,7 +14,7 @@ use Rattle.region.proofs.judge.judge.Tie as tie
 
 abbrev Inv-loop : tie.InvT-loop
 Inv-loop k h normals offsets rows live count next₀ left₀ t₀ next left t =
-    Judging (region k h normals offsets) (boxOf rows) live count next left t
+    Judging (region k (faces h normals offsets)) (boxOf rows) live count next left t
 
 abbrev μ-loop : tie.MeasureT-loop
 μ-loop k h normals offsets rows live count next₀ left₀ t₀ next left t = count - t
@@ -26,11 +27,11 @@ element-copy-out-f c = omega arith
 
 -- The face at hand is one of the faces.
 face-known : (c : tie.In-loop Inv-loop μ-loop)
-    → HasFace (c .before .before .args .k) (c .before .before .args .h) (c .before .before .args .normals .now) (c .before .before .args .offsets .now)
+    → HasFace (c .before .before .args .k) (faces (c .before .before .args .h) (c .before .before .args .normals .now) (c .before .before .args .offsets .now))
     (getD (c .before .before .args .live .now) (c .before .loop .t) 0)
 face-known c =
     let s = c .before .before in
-    record { faces = s .pre .0; known = s .pre .1 .1 .0 .live .each (c .before .loop .t) (c .loop-test .taken) }
+    record { all = s .pre .0; known = s .pre .1 .1 .0 .live .each (c .before .loop .t) (c .loop-test .taken) }
 
 cast-i : tie.Need-cast-i Inv-loop μ-loop
 cast-i c = omega (arith, face-known (c .before) .known, c .before .before .before .pre .0 .tested)

@@ -6,6 +6,7 @@ use native.Mathlib.Omega.{arith}
 use lib.ListN.{getD}
 use borrow.Author.Needs.{needs}
 use borrow.Author.Count.{below-more}
+use Rattle.terms.specs.Lent.{faces}
 use Rattle.terms.specs.Points.{coord}
 use Rattle.terms.specs.Region.{region, above}
 use Rattle.theory.specs.Flags.{not-true, not-false}
@@ -16,7 +17,7 @@ use Rattle.region.proofs.live.inside_live.Tie as tie
 
 abbrev Inv-loop : tie.InvT-loop
 Inv-loop k h points normals offsets p live count x t₀ t =
-    (t ≤ count) × ((s : ℕ) → s < t → above (region k h normals offsets) (getD live s 0) (coord k points p) ≡ true)
+    (t ≤ count) × ((s : ℕ) → s < t → above (region k (faces h normals offsets)) (getD live s 0) (coord k points p) ≡ true)
 
 abbrev μ-loop : tie.MeasureT-loop
 μ-loop k h points normals offsets p live count x t₀ t = count - t
@@ -38,7 +39,7 @@ cast-point-above c =
 point-above-requires : tie.Need-point-above-requires Inv-loop μ-loop
 point-above-requires c κs =
     let s = c .before .before .before .before in (
-      record { faces = s .pre .0; known = s .pre .1 .1 .each (c .before .before .loop .t) (c .before .loop-test .taken) },
+      record { all = s .pre .0; known = s .pre .1 .1 .each (c .before .before .loop .t) (c .before .loop-test .taken) },
       c .before .before .before .point-at .ensures .ranges,
     )
 
@@ -47,7 +48,7 @@ returns c =
     let b = c .before .before .before in
     let w = b .before .before .point-at .ensures in
     let a = b .before .before .before .args in
-    let g = region (a .k) (a .h) (a .normals .now) (a .offsets .now) in
+    let g = region (a .k) (faces (a .h) (a .normals .now) (a .offsets .now)) in
     let i = getD (a .live .now) (b .before .loop .t) 0 in
     let no = not-true (c .before .point-above .result) (c .if1 .taken) in
     live-outside (b .before .loop .t) (b .loop-test .taken) (point-told g w i (c .before .point-above .ensures) no)
@@ -63,7 +64,7 @@ loop-again c =
     let b = c .before .before .before in
     let w = b .before .before .point-at .ensures in
     let a = b .before .before .before .args in
-    let g = region (a .k) (a .h) (a .normals .now) (a .offsets .now) in
+    let g = region (a .k) (faces (a .h) (a .normals .now) (a .offsets .now)) in
     let i = getD (a .live .now) (b .before .loop .t) 0 in
     let yes = not-false (c .before .point-above .result) (c .if1 .left) in
     (omega arith, below-more _ (b .before .loop .t) (b .before .loop .inv .1) (point-told g w i (c .before .point-above .ensures) yes))

@@ -1,0 +1,35 @@
+-- What a caller lends, as one record each: the stock, the order, the faces. The contracts of the calls put them together from the lent slices.
+use mathlib.Core.List.{List}
+use Prim.Native.Nat.{ℕ}
+use lib.ListN.{length}
+use lib.IntN.{ℤ}
+
+-- The stock: n points of k coordinates each, point 0 first.
+pub record Stock : Type 0 where
+  pub k : ℕ
+  pub n : ℕ
+  pub points : List ℤ
+
+-- The order: the number in each slot.
+pub record Order : Type 0 where
+  pub slots : List ℕ
+
+-- The faces: h of them, k components to a face, and an offset for each.
+pub record Faces : Type 0 where
+  pub h : ℕ
+  pub normals : List ℤ
+  pub offsets : List ℤ
+
+-- The three as a call is handed them.
+abbrev pub stock : ℕ → ℕ → List ℤ → Stock
+stock k n points = record { k = k; n = n; points = points }
+
+abbrev pub orderOf : List ℕ → Order
+orderOf slots = record { slots = slots }
+
+abbrev pub faces : ℕ → List ℤ → List ℤ → Faces
+faces h normals offsets = record { h = h; normals = normals; offsets = offsets }
+
+-- Faces that were tested are as many as their offsets.
+abbrev pub facesOf : List ℤ → List ℤ → Faces
+facesOf normals offsets = faces (length offsets) normals offsets
