@@ -1,13 +1,12 @@
--- A number is the first of a list of refusals: found test by test, as the code goes through them.
+-- A number is the first of a list of refusals: found test by test, and group by group, as the code goes through them. Of a group it is asked only that no
+-- number in it is 0, so that 0 says that it was passed.
 use mathlib.Core.Path.{_≡_, refl, sym, _∙_}
 use mathlib.Core.Logic.{_≢_}
 use mathlib.Core.Bool.{Bool, true, false}
 use mathlib.Core.List.{List, [], _∷_, _++_}
 use Prim.Native.Nat.{ℕ}
-use native.Mathlib.Omega.{arith}
 use Rattle.terms.specs.Refusals.{Refusal, firstOf}
-use Rattle.theory.specs.FirstRefusalIsLowest.{risesFrom, first-lowest}
-use Rattle.theory.specs.RefusalsPassed.{Passed, first-skip, first-stop}
+use Rattle.theory.specs.FirstRefusal.{Passed, noZero, first-held, first-skip, first-stop}
 
 -- The number that the list of refusals gives.
 pub record First (rs : List Refusal) (c : ℕ) : Type 0 where
@@ -32,8 +31,10 @@ first-passes e f = record { is = rw e (f .is) }
 pub first-stops : {xs : List Refusal} {c : ℕ} (ys : List Refusal) → First xs c → c ≢ 0 → First (xs ++ ys) c
 first-stops {xs} ys f n = record { is = f .is ∙ sym (first-stop xs ys (λ z. n (f .is ∙ z))) }
 
--- A first group that was passed leaves the number to the others. Its numbers rise from 1.
-pub first-goes-on : {xs ys : List Refusal} {c d : ℕ} → risesFrom 1 xs ≡ true → First xs c → c ≡ 0 → First ys d → First (xs ++ ys) d
-first-goes-on {xs} {ys} r f z g =
-    let passed : Passed xs = record { fails = first-lowest 1 xs (omega arith) r .done (sym (f .is) ∙ z) } in
-    record { is = g .is ∙ sym (first-skip xs ys passed) }
+-- A group that gives 0 was passed.
+pub first-passed : {xs : List Refusal} {c : ℕ} → noZero xs ≡ true → First xs c → c ≡ 0 → Passed xs
+first-passed {xs} n f z = first-held xs n .done (sym (f .is) ∙ z)
+
+-- A first group that was passed leaves the number to the others.
+pub first-goes-on : {xs ys : List Refusal} {c d : ℕ} → noZero xs ≡ true → First xs c → c ≡ 0 → First ys d → First (xs ++ ys) d
+first-goes-on {xs} {ys} n f z g = record { is = g .is ∙ sym (first-skip xs ys (first-passed n f z)) }

@@ -1,5 +1,10 @@
 pub mod Ranges
 pub mod First
-pub mod Stock
-pub mod Outcomes
-pub mod Promises
+pub mod BuildOutcome
+pub mod BuildPromises
+pub mod CheckOutcome
+pub mod CheckPromises
+pub mod ListOutcome
+pub mod ListPromises
+pub mod PlaceOutcome
+pub mod PlacePromises

@@ -1,127 +1,109 @@
-// The refusal tests of the calls, each group as one function that returns the first number that holds, or 0.
-ghost use mathlib.Core.Path.{_≡_};
-ghost use Rattle.terms.specs.Tests.{every};
-ghost use mathlib.Core.Bool.{_&&_};
-ghost use mathlib.Core.List.{_++_};
+// The refusal tests, a function for each number that returns it where a test of its group holds, or 0; and the two groups that several calls make
+// together, the stock's shape and the faces.
+use crate::ranges::all_within;
+use crate::ranges::all_within_wide;
+use arrange::check::check;
 ghost use Prim.Native.Nat.{_≤_};
-ghost use lib.Dec.{leb};
-ghost use Rattle.terms.specs.Lent.{stock, faces};
-ghost use Rattle.terms.specs.Points.{within};
-ghost use Rattle.terms.specs.Refusals.{dimensionRefusals, lengthRefusals, coordinateRefusals, faceRefusals};
+ghost use lib.ListN.{length};
+ghost use Rattle.terms.specs.Lent.{stock, orderOf, faces};
+ghost use Rattle.terms.specs.Refusals.{
+  dimensionRefusals,
+  sizeRefusals,
+  lengthRefusals,
+  roomRefusals,
+  coordinateRefusals,
+  faceCountRefusals,
+  faceLengthRefusals,
+  faceRangeRefusals,
+  treeRefusals,
+  stockRefusals,
+  faceRefusals,
+};
+ghost use Rattle.theory.specs.Tested.{TestedPoints};
 ghost use Rattle.hornherder.specs.First.{First};
-ghost use Rattle.hornherder.specs.Stock.{stockRefusals};
 
-// Whether the number lies from least to greatest.
-fn is_within(x: i32, least: i32, greatest: i32) -> bool
-    ensures { λ r. ⌜ r ≡ within least greatest x ⌝ }
-{
-    if x < least {
-        return false;
-    }
-    x <= greatest
-}
-
-// Whether every number lies from least to greatest. It does not stop early, so that the loop can take several numbers at once.
-fn all_within(numbers: &[i32], least: i32, greatest: i32) -> bool
-    ensures { λ r. ⌜ r ≡ every (within least greatest) (now (numbers .entry)) ⌝ }
-{
-    let mut all = true;
-    for i in 0..numbers.len() {
-        if !is_within(numbers[i], least, greatest) {
-            all = false;
-        }
-    }
-    all
-}
-
-// Whether the offset lies from least to greatest.
-fn is_within_wide(x: i64, least: i64, greatest: i64) -> bool
-    ensures { λ r. ⌜ r ≡ within least greatest x ⌝ }
-{
-    if x < least {
-        return false;
-    }
-    x <= greatest
-}
-
-// Whether every offset lies from least to greatest.
-fn all_within_wide(numbers: &[i64], least: i64, greatest: i64) -> bool
-    ensures { λ r. ⌜ r ≡ every (within least greatest) (now (numbers .entry)) ⌝ }
-{
-    let mut all = true;
-    for i in 0..numbers.len() {
-        if !is_within_wide(numbers[i], least, greatest) {
-            all = false;
-        }
-    }
-    all
-}
-
-// Whether k is 1 to 4.
-fn is_dimension(k: usize) -> bool
-    ensures { λ r. ⌜ r ≡ (leb 1 k && leb k 4) ⌝ }
+// 1 where k is not 1 to 4.
+pub fn dimension_refusal(k: usize) -> u32
+    ensures { λ r. ⌜ First (dimensionRefusals k) r ⌝ }
 {
     if k < 1 {
-        return false;
-    }
-    k <= 4
-}
-
-// The first of 1 to 5 that holds of the points and of the room lent for n numbers, or 0.
-pub fn stock_refusal(k: usize, n: usize, points: &[i32], slots: usize, places: usize) -> u32
-    ensures { λ r. ⌜ First (stockRefusals (stock k n (now (points .entry))) slots places) r ⌝ }
-{
-    if !is_dimension(k) {
         return 1;
     }
+    if 4 < k {
+        return 1;
+    }
+    0
+}
+
+// 2 where n is over 65,535.
+pub fn size_refusal(n: usize) -> u32
+    ensures { λ r. ⌜ First (sizeRefusals n) r ⌝ }
+{
     if 65535 < n {
         return 2;
     }
-    if points.len() != k * n {
+    0
+}
+
+// 3 where the lent coordinates are not so many.
+pub fn length_refusal(size: usize, points: &[i32]) -> u32
+    ensures { λ r. ⌜ First (lengthRefusals size (now (points .entry))) r ⌝ }
+{
+    if points.len() != size {
         return 3;
     }
-    if slots < n {
+    0
+}
+
+// 4 where an order or a list buffer has room for fewer numbers than there are slots.
+pub fn room_refusal(slots: usize, room: usize) -> u32
+    ensures { λ r. ⌜ First (roomRefusals slots room) r ⌝ }
+{
+    if room < slots {
         return 4;
     }
-    if places < n {
-        return 4;
-    }
+    0
+}
+
+// 5 where a coordinate is out of range.
+pub fn coordinate_refusal(points: &[i32]) -> u32
+    ensures { λ r. ⌜ First (coordinateRefusals (now (points .entry))) r ⌝ }
+{
     if !all_within(points, -32768, 32767) {
         return 5;
     }
     0
 }
 
-// The first of 1, 3 and 5 that holds of a point that is lent alone, or 0.
-pub fn point_refusal(k: usize, point: &[i32]) -> u32
-    ensures { λ r. ⌜ First (dimensionRefusals k ++ lengthRefusals k (now (point .entry)) ++ coordinateRefusals (now (point .entry))) r ⌝ }
-{
-    if !is_dimension(k) {
-        return 1;
-    }
-    if point.len() != k {
-        return 3;
-    }
-    if !all_within(point, -32768, 32767) {
-        return 5;
-    }
-    0
-}
-
-// The first of 6 to 8 that holds of the faces, or 0.
-pub fn face_refusal(k: usize, h: usize, normals: &[i32], offsets: &[i64]) -> u32
-    requires { ⌜ k ≤ 4 ⌝ }
-    ensures { λ r. ⌜ First (faceRefusals k (faces h (now (normals .entry)) (now (offsets .entry)))) r ⌝ }
+// 6 where h is over 32.
+fn face_count_refusal(h: usize) -> u32
+    ensures { λ r. ⌜ First (faceCountRefusals h) r ⌝ }
 {
     if 32 < h {
         return 6;
     }
+    0
+}
+
+// 7 where the normals are not k times h, or the offsets not h.
+fn face_length_refusal(k: usize, h: usize, normals: &[i32], offsets: &[i64]) -> u32
+    requires { ⌜ k ≤ 4 ⌝ }
+    requires { ⌜ h ≤ 32 ⌝ }
+    ensures { λ r. ⌜ First (faceLengthRefusals k (faces h (now (normals .entry)) (now (offsets .entry)))) r ⌝ }
+{
     if normals.len() != k * h {
         return 7;
     }
     if offsets.len() != h {
         return 7;
     }
+    0
+}
+
+// 8 where a component or an offset is out of range.
+fn face_range_refusal(h: usize, normals: &[i32], offsets: &[i64]) -> u32
+    ensures { λ r. ⌜ First (faceRangeRefusals (faces h (now (normals .entry)) (now (offsets .entry)))) r ⌝ }
+{
     if !all_within(normals, -32767, 32767) {
         return 8;
     }
@@ -129,4 +111,47 @@ pub fn face_refusal(k: usize, h: usize, normals: &[i32], offsets: &[i64]) -> u32
         return 8;
     }
     0
+}
+
+// 9 where the first n slots are not the tree of the points.
+pub fn tree_refusal(k: usize, n: usize, points: &[i32], order: &[u32]) -> u32
+    requires { ⌜ TestedPoints (stock k n (now points)) ⌝ }
+    requires { ⌜ n ≤ length (now order) ⌝ }
+    ensures { λ r. ⌜ First (treeRefusals (stock k n (now (points .entry))) (orderOf (now (order .entry)))) r ⌝ }
+{
+    if check(k, n, points, &order[0..n]) {
+        return 0;
+    }
+    9
+}
+
+// The first of 1, 2 and 3 that holds of the stock, or 0.
+pub fn stock_refusal(k: usize, n: usize, points: &[i32]) -> u32
+    ensures { λ r. ⌜ First (stockRefusals (stock k n (now (points .entry)))) r ⌝ }
+{
+    let dimension = dimension_refusal(k);
+    if dimension != 0 {
+        return dimension;
+    }
+    let size = size_refusal(n);
+    if size != 0 {
+        return size;
+    }
+    length_refusal(k * n, points)
+}
+
+// The first of 6, 7 and 8 that holds of the faces, or 0.
+pub fn face_refusal(k: usize, h: usize, normals: &[i32], offsets: &[i64]) -> u32
+    requires { ⌜ k ≤ 4 ⌝ }
+    ensures { λ r. ⌜ First (faceRefusals k (faces h (now (normals .entry)) (now (offsets .entry)))) r ⌝ }
+{
+    let count = face_count_refusal(h);
+    if count != 0 {
+        return count;
+    }
+    let length = face_length_refusal(k, h, normals, offsets);
+    if length != 0 {
+        return length;
+    }
+    face_range_refusal(h, normals, offsets)
 }

@@ -10,7 +10,8 @@ use lib.IntN.{ℤ}
 use Rattle.terms.specs.declared.Listing.{Listing}
 use Rattle.terms.specs.Lent.{Stock, Order, Faces, stock, faces}
 use Rattle.terms.specs.Points.{slotsOf}
-use Rattle.terms.specs.Calls.{Built, listAnswer, listAfter}
+use Rattle.terms.specs.BuildCall.{Built}
+use Rattle.terms.specs.ListCall.{listAnswer, listAfter}
 use Rattle.theory.specs.Flags.{not-true, not-false}
 use Rattle.text.specs.Answer.{refusedText}
 use Rattle.text.specs.TextReading.{ReadsText}

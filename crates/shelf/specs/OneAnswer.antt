@@ -2,7 +2,7 @@
 -- the list call reads of its buffer only that it has room, so what the buffers held at first cannot be seen.
 use mathlib.Core.Path.{_≡_, refl, sym, ap, _∙_}
 use mathlib.Core.List.{List}
-use Prim.Native.Nat.{ℕ, zero, suc, _≤_}
+use Prim.Native.Nat.{ℕ, _≤_}
 use native.Mathlib.Omega.{arith}
 use lib.ListN.{length, take}
 use lib.Seq.{length-take-le}
@@ -14,11 +14,13 @@ use Rattle.terms.specs.Points.{pointOf, slotsOf}
 use Rattle.terms.specs.Tree.{shelfRun}
 use Rattle.terms.specs.Region.{region}
 use Rattle.terms.specs.Lists.{places}
-use Rattle.terms.specs.Calls.{ifDone, Built, listCode, listAnswer, listAfter}
+use Rattle.terms.specs.BuildCall.{Built}
+use Rattle.terms.specs.ListCall.{listCode, listAnswer, listAfter}
 use Rattle.theory.specs.Flags.{same-test}
 use Rattle.theory.specs.UniqueOrder.{one-shelf}
-use Rattle.theory.specs.WhatIsRead.{build-reads, list-answer-reads}
-use Rattle.theory.specs.WhatIsWritten.{list-first}
+use Rattle.theory.specs.FirstRefusal.{if-code}
+use Rattle.theory.specs.BuildCall.{build-reads}
+use Rattle.theory.specs.ListCall.{list-front, list-answer-reads}
 use Rattle.text.specs.OneToOne.{says-one}
 use Rattle.shelf.specs.Answer.{Listed, list-refused, list-done, Shelved, build-refused, build-done, Answer, not-the-text, the-text, Writes}
 
@@ -29,11 +31,7 @@ rooms {n} xs ys a b = same-test (λ t. absurd (omega (arith, ltb-true (length xs
 -- The list call's answer has the number that it returns.
 code-is : (s : Stock) (o : Order) (f : Faces) (list : List ℕ) → listAnswer s o f list .code ≡ listCode s o f list
 unfolding listAnswer
-code-is s o f list = go (listCode s o f list) _ refl
-  where
-    go : (c : ℕ) (done : Listing) → done .code ≡ 0 → ifDone c done (record { code = c; inside = 0; outside = 0; visits = 0 }) .code ≡ c
-    go zero done e = e
-    go (suc c) done e = refl
+code-is s o f list = if-code (λ (r : Listing). r .code) (listCode s o f list) _ _ refl refl
 
 -- Buffers with room for n numbers get one number from the build call.
 number-one : {s : Stock} {o q after later : Order} {c d : ℕ} → slotsOf s ≤ length (o .slots) → slotsOf s ≤ length (q .slots) → Built s o c after
@@ -50,7 +48,7 @@ module _ {s : Stock} {f : Faces} where
 
       first : (o : Order) (l : List ℕ) → listAnswer s o f l .code ≡ 0
           → take (slotsOf s) (listAfter s o f l) ≡ places (region (s .k) f) (pointOf s) (shelfRun s o)
-      first o l z = list-first s o f l (sym (code-is s o f l) ∙ z)
+      first o l z = list-front s o f l (sym (code-is s o f l) ∙ z)
 
       go : Listed s o f p → Listed s u f q → p ≡ q
       go (list-refused l a r x) (list-refused m b t y) = x ∙ rw (same l m a b) (sym y)

@@ -22,7 +22,10 @@ use Rattle.terms.specs.Region.{Region, region, reach, aboveAt, inside, i
 use Rattle.terms.specs.Visits.{openSlots, visits}
 use Rattle.terms.specs.Bound.{digitsWithin, digits, S, isSquare}
 use Rattle.terms.specs.Refusals.{firstOf}
-use Rattle.terms.specs.Calls.{Built, buildAnswer, checkAnswer, listCode, listAnswer, listAfter, placeCode, placeAnswer}
+use Rattle.terms.specs.BuildCall.{Built, buildAnswer}
+use Rattle.terms.specs.CheckCall.{checkAnswer}
+use Rattle.terms.specs.ListCall.{listCode, listAnswer, listAfter}
+use Rattle.terms.specs.PlaceCall.{placeCode, placeAnswer}
 
 -- A negative number as one writes it.
 abbrev minus : ℕ → ℤ

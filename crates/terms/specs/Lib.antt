@@ -10,5 +10,8 @@ pub mod Visits
 pub mod Lists
 pub mod Bound
 pub mod Refusals
-pub mod Calls
+pub mod BuildCall
+pub mod CheckCall
+pub mod ListCall
+pub mod PlaceCall
 pub mod Examples

@@ -1,13 +1,14 @@
--- The refusals: for each call the numbers it may return with their tests, in the order of testing. The first test that holds is the answer.
+-- The refusals: a small group for each number, with its tests. A call's refusals are groups put together in the order of testing, and the first test that
+-- holds gives the answer.
 use mathlib.Core.Bool.{Bool, _&&_, cond, not}
 use mathlib.Core.List.{List, [], _∷_, _++_}
-use Prim.Native.Nat.{ℕ, _*_}
+use Prim.Native.Nat.{ℕ, zero, suc, _*_}
 use lib.ListN.{length}
 use lib.IntN.{ℤ}
 use lib.Dec.{leb, ltb, eqb}
 use Rattle.terms.specs.Tests.{every}
 use Rattle.terms.specs.Lent.{Stock, Order, Faces}
-use Rattle.terms.specs.Points.{slotsOf, isCoordinate}
+use Rattle.terms.specs.Points.{isCoordinate}
 use Rattle.terms.specs.Region.{isComponent, isOffset}
 use Rattle.terms.specs.Tree.{isShelf}
 
@@ -25,7 +26,7 @@ firstOf (r ∷ rs) = cond (r .holds) (r .number) (firstOf rs)
 abbrev pub notLong : {A : Type 0} → ℕ → List A → Bool
 notLong size xs = not (eqb (length xs) size)
 
--- The points' shape. 1: k is not 1 to 4.
+-- 1: k is not 1 to 4.
 abbrev pub dimensionRefusals : ℕ → List Refusal
 dimensionRefusals k = record { number = 1; holds = not (leb 1 k && leb k 4) } ∷ []
 
@@ -37,51 +38,41 @@ sizeRefusals n = record { number = 2; holds = ltb 65535 n } ∷ []
 abbrev pub lengthRefusals : ℕ → List ℤ → List Refusal
 lengthRefusals size points = record { number = 3; holds = notLong size points } ∷ []
 
--- The points' shape: 1, 2 and 3.
-abbrev pub pointsRefusals : Stock → List Refusal
-pointsRefusals s = dimensionRefusals (s .k) ++ sizeRefusals (s .n) ++ lengthRefusals (s .k * s .n) (s .points)
-
--- 4: the order, or a list buffer, is shorter than the slots.
-abbrev pub roomRefusals : ℕ → List ℕ → List Refusal
-roomRefusals slots buffer = record { number = 4; holds = ltb (length buffer) slots } ∷ []
+-- 4: the order, or a list buffer, has room for fewer numbers than there are slots.
+abbrev pub roomRefusals : ℕ → ℕ → List Refusal
+roomRefusals slots room = record { number = 4; holds = ltb room slots } ∷ []
 
 -- 5: a coordinate is out of range.
 abbrev pub coordinateRefusals : List ℤ → List Refusal
 coordinateRefusals points = record { number = 5; holds = not (every isCoordinate points) } ∷ []
 
--- The faces: 6, h is over 32; 7, a list of another length; 8, a component or an offset out of range.
-abbrev pub faceRefusals : ℕ → Faces → List Refusal
-faceRefusals k f =
-    record { number = 6; holds = ltb 32 (f .h) }
-    ∷ record { number = 7; holds = notLong (k * f .h) (f .normals) }
-    ∷ record { number = 7; holds = notLong (f .h) (f .offsets) }
-    ∷ record { number = 8; holds = not (every isComponent (f .normals)) }
-    ∷ record { number = 8; holds = not (every isOffset (f .offsets)) }
-    ∷ []
+-- 6: h is over 32.
+abbrev pub faceCountRefusals : ℕ → List Refusal
+faceCountRefusals h = record { number = 6; holds = ltb 32 h } ∷ []
+
+-- 7: the normals are not k times h, or the offsets not h.
+abbrev pub faceLengthRefusals : ℕ → Faces → List Refusal
+faceLengthRefusals k f =
+    record { number = 7; holds = notLong (k * f .h) (f .normals) } ∷ record { number = 7; holds = notLong (f .h) (f .offsets) } ∷ []
+
+-- 8: a component or an offset is out of range.
+abbrev pub faceRangeRefusals : Faces → List Refusal
+faceRangeRefusals f =
+    record { number = 8; holds = not (every isComponent (f .normals)) } ∷ record { number = 8; holds = not (every isOffset (f .offsets)) } ∷ []
 
 -- 9: the first n slots are not the tree of these points.
 abbrev pub treeRefusals : Stock → Order → List Refusal
 treeRefusals s o = record { number = 9; holds = not (isShelf s o) } ∷ []
 
--- Build: 1 to 5.
-abbrev pub buildRefusals : Stock → Order → List Refusal
-buildRefusals s o = pointsRefusals s ++ roomRefusals (slotsOf s) (o .slots) ++ coordinateRefusals (s .points)
+-- The stock's shape: 1, 2 and 3.
+abbrev pub stockRefusals : Stock → List Refusal
+stockRefusals s = dimensionRefusals (s .k) ++ sizeRefusals (s .n) ++ lengthRefusals (s .k * s .n) (s .points)
 
--- Check: 1 to 5, 9.
-abbrev pub checkRefusals : Stock → Order → List Refusal
-checkRefusals s o = buildRefusals s o ++ treeRefusals s o
+-- The faces: 6, 7 and 8.
+abbrev pub faceRefusals : ℕ → Faces → List Refusal
+faceRefusals k f = faceCountRefusals (f .h) ++ faceLengthRefusals k f ++ faceRangeRefusals f
 
--- List: 1 to 9.
-abbrev pub listRefusals : Stock → Order → Faces → List ℕ → List Refusal
-listRefusals s o f list =
-    pointsRefusals s
-    ++ roomRefusals (slotsOf s) (o .slots)
-    ++ roomRefusals (slotsOf s) list
-    ++ coordinateRefusals (s .points)
-    ++ faceRefusals (s .k) f
-    ++ treeRefusals s o
-
--- One-point test: 1, 3, 5 to 8.
-abbrev pub placeRefusals : ℕ → List ℤ → Faces → List Refusal
-placeRefusals k point f =
-    dimensionRefusals k ++ lengthRefusals k point ++ coordinateRefusals point ++ faceRefusals k f
+-- The first value where the number is 0, done; the second where it is a refusal.
+abbrev pub ifDone : {A : Type 0} → ℕ → A → A → A
+ifDone zero done refused = done
+ifDone (suc c) done refused = refused

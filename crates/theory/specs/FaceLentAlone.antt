@@ -18,12 +18,12 @@ use Rattle.terms.specs.Box.{Box, rootBox, shelfBoxes}
 use Rattle.terms.specs.Region.{region, alone, above, aboveAt, bySign, isSettled, isOpen, isComponent, isOffset}
 use Rattle.terms.specs.Visits.{visits}
 use Rattle.terms.specs.Refusals.{firstOf}
-use Rattle.terms.specs.Calls.{listCode}
+use Rattle.terms.specs.ListCall.{listCode}
 use Rattle.theory.specs.Flags.{not-false}
 use Rattle.theory.specs.Counting.{every-at, at-every, count-same}
 use Rattle.theory.specs.AboveIsUpward.{above-same-offset, above-alone}
 use Rattle.theory.specs.BoxFuel.{visits-count}
-use Rattle.theory.specs.FirstRefusalIsLowest.{list-lowest}
+use Rattle.theory.specs.ListCall.{list-first}
 
 -- Face i lent alone: its components and its offset.
 abbrev pub faceAlone : ℕ → Faces → ℕ → Faces
@@ -72,7 +72,7 @@ module _ (s : Stock) (o : Order) (f : Faces) (list : List ℕ) where
   unfolding listCode firstOf every
   lent-done e i l =
       let k : ℕ = s .k in
-      let t = list-lowest s o f list .done e in
+      let t = list-first s o f list .done e .fails in
       let size : length (f .normals) ≡ k * f .h = eqb-true (length (f .normals)) (k * f .h) (not-false (eqb (length (f .normals)) (k * f .h)) (t 7)) in
       let count : length (f .offsets) ≡ f .h = eqb-true (length (f .offsets)) (f .h) (not-false (eqb (length (f .offsets)) (f .h)) (t 8)) in
       let room : k ≤ length (drop (i * k) (f .normals)) = omega (arith, length-drop (i * k) (f .normals), mul-le-mul-right k l, suc-mul i k) in

@@ -7,17 +7,11 @@ use mathlib.Core.List.{List, [], _∷_}
 use Prim.Native.Nat.{ℕ, zero, suc, _≤_}
 use native.Mathlib.Omega.{arith}
 use lib.ListN.{getD}
-use lib.IntN.{ℤ}
 use lib.Dec.{leb}
 use borrow.Author.Tests.{leb-true}
-use Rattle.terms.specs.Lent.{Stock, Order, Faces}
-use Rattle.terms.specs.Refusals.{Refusal, firstOf, buildRefusals, checkRefusals, listRefusals, placeRefusals}
-use Rattle.terms.specs.Calls.{buildAnswer, checkAnswer, listCode, placeCode}
+use Rattle.terms.specs.Refusals.{Refusal, firstOf}
 use Rattle.theory.specs.Flags.{clash, and-true}
-
--- What stands past the end of a list of refusals: it does not hold.
-abbrev pub none : Refusal
-none = record { number = 0; holds = false }
+use Rattle.theory.specs.FirstRefusal.{none}
 
 -- The numbers rise, each at least the one before it and the first at least b; two may be alike.
 unfoldable pub risesFrom : ℕ → List Refusal → Bool
@@ -60,20 +54,3 @@ first-lowest b (r ∷ rs) l e =
     let p = and-true (leb b (r .number)) e in
     let m : 1 ≤ r .number = omega (arith, leb-true b (r .number) (p .0)) in
     one-more (r .holds) (r .number) rs (firstOf rs) m (p .1) (first-lowest (r .number) rs m (p .1))
-
--- "Each call tests those that concern its arguments, in rising order; the lowest that holds is returned."
-pub build-lowest : (s : Stock) (o : Order) → Lowest (buildRefusals s o) (buildAnswer s o)
-unfolding risesFrom buildAnswer
-build-lowest s o = first-lowest 1 (buildRefusals s o) (omega arith) refl
-
-pub check-lowest : (s : Stock) (o : Order) → Lowest (checkRefusals s o) (checkAnswer s o)
-unfolding risesFrom checkAnswer
-check-lowest s o = first-lowest 1 (checkRefusals s o) (omega arith) refl
-
-pub list-lowest : (s : Stock) (o : Order) (f : Faces) (list : List ℕ) → Lowest (listRefusals s o f list) (listCode s o f list)
-unfolding risesFrom listCode
-list-lowest s o f list = first-lowest 1 (listRefusals s o f list) (omega arith) refl
-
-pub place-lowest : (k : ℕ) (point : List ℤ) (f : Faces) → Lowest (placeRefusals k point f) (placeCode k point f)
-unfolding risesFrom placeCode
-place-lowest k point f = first-lowest 1 (placeRefusals k point f) (omega arith) refl

@@ -12,9 +12,14 @@ pub mod SameByNumber
 pub mod RisingNumbers
 pub mod EachNumberOnce
 pub mod UniqueOrder
+pub mod InsideAndOutside
+pub mod FirstRefusal
 pub mod FirstRefusalIsLowest
 pub mod RefusalsPassed
-pub mod InsideAndOutside
+pub mod BuildCall
+pub mod CheckCall
+pub mod ListCall
+pub mod PlaceCall
 pub mod AboveIsUpward
 pub mod Boxes
 pub mod LeastAndGreatest
@@ -28,9 +33,6 @@ pub mod BoundBySteps
 pub mod SquareBound
 pub mod FaceLentAlone
 pub mod VisitsOfTheListCall
-pub mod WhatIsRead
-pub mod WhatIsWritten
-pub mod OneOutcome
 pub mod FacesSplit
 pub mod TreeIsDistinct
 pub mod TreeDepth

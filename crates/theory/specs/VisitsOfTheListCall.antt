@@ -14,9 +14,9 @@ use Rattle.terms.specs.Tree.{treeRun, eachOnce, isTree, shelfRun}
 use Rattle.terms.specs.Region.{region, alone}
 use Rattle.terms.specs.Visits.{visits}
 use Rattle.terms.specs.Bound.{S, isSquare}
-use Rattle.terms.specs.Calls.{listCode, listAnswer}
+use Rattle.terms.specs.ListCall.{listCode, listAnswer}
 use Rattle.theory.specs.Flags.{and-true}
-use Rattle.theory.specs.RefusalsPassed.{list-passed}
+use Rattle.theory.specs.ListCall.{list-passed}
 use Rattle.theory.specs.SumBound.{visits-le-faces}
 use Rattle.theory.specs.SquareBound.{square-visits-le-S}
 use Rattle.theory.specs.FaceLentAlone.{faceAlone, lent-visits, lent-done}

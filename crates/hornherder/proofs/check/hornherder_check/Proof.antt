@@ -1,0 +1,25 @@
+-- A refusal of 1 to 5 is the answer; where they were passed, 9 or 0 is.
+use borrow.Author.Needs.{needs}
+use Rattle.terms.specs.Lent.{stock, orderOf}
+use Rattle.hornherder.specs.BuildOutcome.{build-tested}
+use Rattle.hornherder.specs.CheckOutcome.{check-refused, check-goes-on}
+use Rattle.hornherder.proofs.check.hornherder_check.Statement.{statement}
+use Rattle.hornherder.proofs.check.hornherder_check.Tie as tie
+
+build-refusal-requires : tie.Need-build-refusal-requires
+build-refusal-requires c κs = search needs
+
+returns : tie.Need-returns
+returns c = check-refused _ _ (c .before .build-refusal .ensures) (c .if1 .taken)
+
+tree-refusal-requires : tie.Need-tree-refusal-requires
+tree-refusal-requires c κs =
+    let a = c .before .before .before .args in
+    let s = build-tested (stock (a .k) (a .n) (a .points .now)) (orderOf (a .order .now)) (c .before .build-refusal .ensures) (c .if1 .left) in
+    (s .tested, s .room)
+
+returns-2 : tie.Need-returns-2
+returns-2 c = check-goes-on _ _ (c .before .before .build-refusal .ensures) (c .before .if1 .left) (c .tree-refusal .ensures)
+
+pub hornherder-check-spec : {M : Type 1} → statement M
+hornherder-check-spec = tie.close (tie.spec build-refusal-requires returns tree-refusal-requires returns-2)

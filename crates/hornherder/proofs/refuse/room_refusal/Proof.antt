@@ -1,0 +1,14 @@
+-- The comparison is the test of the group.
+use borrow.Author.Tests.{lt-ltb, le-ltb}
+use Rattle.hornherder.specs.First.{first-none, first-holds, first-passes}
+use Rattle.hornherder.proofs.refuse.room_refusal.Statement.{statement}
+use Rattle.hornherder.proofs.refuse.room_refusal.Tie as tie
+
+returns : tie.Need-returns
+returns c = first-holds (lt-ltb _ _ (c .if1 .taken))
+
+returns-2 : tie.Need-returns-2
+returns-2 c = first-passes (le-ltb _ _ (c .if1 .left)) first-none
+
+pub room-refusal-spec : {M : Type 1} → statement M
+room-refusal-spec = tie.close (tie.spec returns returns-2)

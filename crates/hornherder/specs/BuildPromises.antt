@@ -1,0 +1,31 @@
+-- The demands, read off the build call's contract. Each follows from `theory` in a line or two.
+use mathlib.Core.Path.{_≡_}
+use mathlib.Core.Logic.{_≢_}
+use Prim.Native.Nat.{ℕ}
+use lib.ListN.{drop}
+use Rattle.terms.specs.Lent.{Stock, Order}
+use Rattle.terms.specs.Points.{slotsOf}
+use Rattle.terms.specs.BuildCall.{buildRefusals, Built}
+use Rattle.theory.specs.FirstRefusal.{FirstHeld}
+use Rattle.theory.specs.FirstRefusalIsLowest.{Lowest}
+use Rattle.theory.specs.BuildCall.{build-first, build-lowest, built-once, built-same}
+
+module _ {s : Stock} {o : Order} {a : ℕ} {x : Order} (e : Built s o a x) where
+  -- Two outcomes that satisfy the contract are equal.
+  pub build-once : {b : ℕ} {y : Order} → Built s o b y → (a ≡ b) × (x .slots ≡ y .slots)
+  build-once f = built-once e f
+
+  -- The answer is the first refusal that holds in the order of testing, and 0 where none does; the numbers rise, so it is the lowest.
+  pub build-answers-the-first : FirstHeld (buildRefusals s o) a
+  build-answers-the-first = rw (e .answered) (build-first s o)
+
+  pub build-answers-the-lowest : Lowest (buildRefusals s o) a
+  build-answers-the-lowest = rw (e .answered) (build-lowest s o)
+
+  -- A refusal changes no lent number.
+  pub build-refused-writes-nothing : a ≢ 0 → x .slots ≡ o .slots
+  build-refused-writes-nothing = e .refused
+
+-- The builder takes any first contents: only the places from n on, which it keeps, are left of them.
+pub build-reads-no-slot : {s : Stock} {o q x y : Order} → Built s o 0 x → Built s q 0 y → drop (slotsOf s) (o .slots) ≡ drop (slotsOf s) (q .slots) → x .slots ≡ y .slots
+build-reads-no-slot e f later = built-same e f later

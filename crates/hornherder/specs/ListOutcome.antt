@@ -1,0 +1,54 @@
+-- What the list call gives, put together: where its first refusal is not 0, the refusal; where it is 0, what the walk counts and writes.
+use mathlib.Core.Path.{_≡_, refl, sym, _∙_}
+use mathlib.Core.Logic.{_≢_}
+use mathlib.Core.List.{List, _++_}
+use Prim.Native.Nat.{ℕ, _≤_}
+use native.Mathlib.Omega.{arith}
+use lib.ListN.{length, drop}
+use lib.IntN.{ℤ}
+use Rattle.terms.specs.Lent.{Stock, Order, Faces}
+use Rattle.terms.specs.Points.{pointOf, slotsOf}
+use Rattle.terms.specs.Tree.{shelfRun}
+use Rattle.terms.specs.Region.{Region, region}
+use Rattle.terms.specs.ListCall.{listRefusals, listCode, listAnswer, listAfter, ListedAs}
+use Rattle.theory.specs.BoxFuel.{visits-le-slots}
+use Rattle.theory.specs.InsideAndOutside.{lists-length}
+use Rattle.theory.specs.FirstRefusal.{if-refused}
+use Rattle.theory.specs.ListCall.{ListPassed, list-passed}
+use Rattle.walk.specs.Shelf.{Listed}
+use Rattle.hornherder.specs.First.{First}
+
+pub record AtMost (n i o u : ℕ) : Type 0 where
+  pub inside : i ≤ n
+  pub outside : o ≤ n
+  pub visited : u ≤ n
+
+pub counts-at-most : {g : Region} {at : ℕ → ℕ → ℤ} {run after : List ℕ} {i o u : ℕ} → Listed g at run after i o u → AtMost (length run) i o u
+counts-at-most {g} {at} {run} w =
+    let both = lists-length g at run in
+    record {
+      inside = omega (arith, w .inside);
+      outside = omega (arith, w .outside);
+      visited = omega (arith, w .visited, visits-le-slots g at run);
+    }
+
+module _ (s : Stock) (o : Order) (f : Faces) (list : List ℕ) {c : ℕ} (first : First (listRefusals s o f list) c) where
+  list-coded : c ≡ listCode s o f list
+  unfolding listCode
+  list-coded = first .is
+
+  -- What 1 to 9 have tested.
+  pub list-tested : c ≡ 0 → ListPassed s o f list
+  list-tested z = list-passed s o f list (sym list-coded ∙ z)
+
+  pub list-refused : c ≢ 0 → ListedAs s o f list (record { code = c; inside = 0; outside = 0; visits = 0 }) list
+  unfolding listAnswer listAfter
+  list-refused m = record { answered = rw (← list-coded) (sym (if-refused c _ _ m)); written = rw (← list-coded) (sym (if-refused c _ _ m)) }
+
+  pub list-done : c ≡ 0 → (after : List ℕ) (i j u : ℕ) → Listed (region (s .k) f) (pointOf s) (shelfRun s o) after i j u
+      → ListedAs s o f list (record { code = 0; inside = i; outside = j; visits = u }) (after ++ drop (slotsOf s) list)
+  unfolding listAnswer listAfter
+  list-done z after i j u w = record {
+    answered = rw (← list-coded, z, w .inside, w .outside, w .visited) refl;
+    written = rw (← list-coded, z, w .list) refl;
+  }

@@ -1,0 +1,86 @@
+-- The demands, read off the list call's contract. Each follows from `theory` in a line or two.
+use mathlib.Core.Path.{_≡_, refl, sym, ap, _∙_}
+use mathlib.Core.Logic.{_≢_}
+use mathlib.Core.Bool.{true}
+use mathlib.Core.List.{List}
+use Prim.Native.Nat.{ℕ, _+_, _*_, _≤_, _<_}
+use lib.ListN.{length, take, drop}
+use lib.Dec.{ltb}
+use Rattle.whole.specs.IndexedTotal.{totalTo}
+use Rattle.terms.specs.declared.Listing.{Listing}
+use Rattle.terms.specs.Lent.{Stock, Order, Faces}
+use Rattle.terms.specs.Points.{belongsTo, slotsOf}
+use Rattle.terms.specs.Tree.{eachOnce, shelfRun}
+use Rattle.terms.specs.Region.{region}
+use Rattle.terms.specs.Bound.{S, isSquare}
+use Rattle.terms.specs.ListCall.{listRefusals, listCode, listAnswer, ListedAs}
+use Rattle.theory.specs.FirstRefusal.{FirstHeld, if-code}
+use Rattle.theory.specs.FirstRefusalIsLowest.{Lowest}
+use Rattle.theory.specs.InsideAndOutside.{shelf-lists-length, shelf-places-each}
+use Rattle.theory.specs.FaceLentAlone.{faceAlone}
+use Rattle.theory.specs.VisitsOfTheListCall.{list-visits-le-faces, list-visits-le-S}
+use Rattle.theory.specs.ListCall.{list-first, list-lowest, list-passed, list-refused, list-front, list-later, list-answer-reads, list-after-reads}
+
+module _ (s : Stock) (o : Order) (f : Faces) (list : List ℕ) where
+  answer-code : listAnswer s o f list .code ≡ listCode s o f list
+  unfolding listAnswer
+  answer-code = if-code (λ (r : Listing). r .code) (listCode s o f list) _ _ refl refl
+
+  module _ {a : Listing} {x : List ℕ} (e : ListedAs s o f list a x) where
+    code : a .code ≡ listCode s o f list
+    code = ap (λ (r : Listing). r .code) (e .answered) ∙ answer-code
+
+    -- Two outcomes that satisfy the contract are equal.
+    pub list-once : {b : Listing} {y : List ℕ} → ListedAs s o f list b y → (a ≡ b) × (x ≡ y)
+    list-once g = (e .answered ∙ sym (g .answered), e .written ∙ sym (g .written))
+
+    -- The number is the first refusal that holds in the order of testing, and 0 where none does; the numbers rise, so it is the lowest.
+    pub list-answers-the-first : FirstHeld (listRefusals s o f list) (a .code)
+    list-answers-the-first = rw code (list-first s o f list)
+
+    pub list-answers-the-lowest : Lowest (listRefusals s o f list) (a .code)
+    list-answers-the-lowest = rw code (list-lowest s o f list)
+
+    -- A refusal changes no lent number.
+    pub list-refused-writes-nothing : a .code ≢ 0 → x ≡ list
+    list-refused-writes-nothing m = e .written ∙ list-refused s o f list (λ z. m (code ∙ z))
+
+    module _ (done : a .code ≡ 0) where
+      passed : listCode s o f list ≡ 0
+      passed = sym code ∙ done
+
+      -- Inside plus outside is n.
+      pub list-counts-n : a .inside + a .outside ≡ slotsOf s
+      unfolding listAnswer
+      list-counts-n =
+          rw (e .answered, passed)
+          (shelf-lists-length s o (list-passed s o f list passed .shelf) (region (s .k) f))
+
+      -- The buffer holds each number once.
+      pub list-holds-each-once : eachOnce (belongsTo s) (s .n) (take (slotsOf s) x) ≡ true
+      list-holds-each-once =
+          rw (e .written, list-front s o f list passed)
+          (shelf-places-each s o (list-passed s o f list passed .shelf) (region (s .k) f))
+
+      -- Places from n on are not written.
+      pub list-keeps-later-places : drop (slotsOf s) x ≡ drop (slotsOf s) list
+      list-keeps-later-places = rw (e .written) (list-later s o f list passed)
+
+    -- "For any region, square or not, visits are at most the sum of the visits of each face taken as a region alone."
+    pub visits-at-most-the-faces
+        : a .visits ≤ totalTo (f .h) (λ i. listAnswer s o (faceAlone (s .k) f i) list .visits)
+    visits-at-most-the-faces = rw (e .answered) (list-visits-le-faces s o f list)
+
+    -- "Where all faces are square, visits are at most h times S(n, k)."
+    pub visits-at-most-hS : ((i : ℕ) → i < f .h → isSquare (region (s .k) f) i ≡ true) → a .visits ≤ f .h * S (slotsOf s) (s .k)
+    visits-at-most-hS squares = rw (e .answered) (list-visits-le-S s o f list squares)
+
+    -- Neither the order's places from n on nor what the buffer held before is read: only whether it has n places, and what it keeps.
+    module _ (q : Order) (buffer : List ℕ) (slots : shelfRun s o ≡ shelfRun s q) (rooms : ltb (length list) (slotsOf s) ≡ ltb (length buffer) (slotsOf s))
+        {b : Listing} {y : List ℕ} (g : ListedAs s q f buffer b y) where
+      pub list-reads-n-slots : a ≡ b
+      list-reads-n-slots = e .answered ∙ list-answer-reads s o q f list buffer slots rooms ∙ sym (g .answered)
+
+      pub list-leaves-the-same : drop (slotsOf s) list ≡ drop (slotsOf s) buffer → a .code ≡ 0 → x ≡ y
+      list-leaves-the-same later done =
+          e .written ∙ list-after-reads s o q f list buffer slots rooms later (sym code ∙ done) ∙ sym (g .written)

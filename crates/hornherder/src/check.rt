@@ -1,0 +1,18 @@
+// The check call.
+use crate::build::build_refusal;
+use crate::refuse::tree_refusal;
+ghost use mathlib.Core.Path.{_≡_};
+ghost use Rattle.terms.specs.Lent.{stock, orderOf};
+ghost use Rattle.terms.specs.CheckCall.{checkAnswer};
+
+// Whether the first n slots are the tree of the n points: 0 if they are, else the number of a refusal.
+#[no_mangle]
+pub extern "C" fn hornherder_check(k: usize, n: usize, points: &[i32], order: &[u32]) -> u32
+    ensures { λ r. ⌜ r ≡ checkAnswer (stock k n (now (points .entry))) (orderOf (now (order .entry))) ⌝ }
+{
+    let code = build_refusal(k, n, points, order);
+    if code != 0 {
+        return code;
+    }
+    tree_refusal(k, n, points, order)
+}

@@ -1,0 +1,54 @@
+// The test of one point.
+use crate::refuse::coordinate_refusal;
+use crate::refuse::dimension_refusal;
+use crate::refuse::face_refusal;
+use crate::refuse::length_refusal;
+use region::faces::inside_all;
+use terms::Placing;
+ghost use mathlib.Core.Path.{_≡_};
+ghost use Rattle.terms.specs.Lent.{faces};
+ghost use Rattle.terms.specs.PlaceCall.{placeRefusals, placeAnswer};
+ghost use Rattle.hornherder.specs.First.{First};
+
+// Whether one point is inside a region: 1 or 0 beside the number 0. A refusal has its number and 0.
+#[no_mangle]
+pub extern "C" fn hornherder_place(
+    k: usize,
+    h: usize,
+    point: &[i32],
+    normals: &[i32],
+    offsets: &[i64],
+) -> Placing
+    ensures { λ r. ⌜ r ≡ placeAnswer k (now (point .entry)) (faces h (now (normals .entry)) (now (offsets .entry))) ⌝ }
+{
+    let code = place_refusal(k, h, point, normals, offsets);
+    if code != 0 {
+        return Placing {
+            code: code,
+            inside: 0,
+        };
+    }
+    if inside_all(k, h, point, normals, offsets, 0) {
+        return Placing { code: 0, inside: 1 };
+    }
+    Placing { code: 0, inside: 0 }
+}
+
+// The first of 1, 3 and 5 to 8 that holds of the one-point test's arguments, or 0.
+fn place_refusal(k: usize, h: usize, point: &[i32], normals: &[i32], offsets: &[i64]) -> u32
+    ensures { λ r. ⌜ First (placeRefusals k (now (point .entry)) (faces h (now (normals .entry)) (now (offsets .entry)))) r ⌝ }
+{
+    let dimension = dimension_refusal(k);
+    if dimension != 0 {
+        return dimension;
+    }
+    let length = length_refusal(k, point);
+    if length != 0 {
+        return length;
+    }
+    let coordinate = coordinate_refusal(point);
+    if coordinate != 0 {
+        return coordinate;
+    }
+    face_refusal(k, h, normals, offsets)
+}

@@ -1,0 +1,54 @@
+-- The test of one point: the first refusal is its number, and what it has tested where that is 0.
+use mathlib.Core.Path.{_≡_, refl}
+use mathlib.Core.List.{List, _++_}
+use Prim.Native.Nat.{ℕ, _*_}
+use native.Mathlib.Omega.{arith}
+use lib.ListN.{length}
+use lib.IntN.{ℤ}
+use borrow.Author.Tests.{ltb-true}
+use Rattle.terms.specs.Lent.{Faces, stock}
+use Rattle.terms.specs.Refusals.{Refusal, dimensionRefusals, lengthRefusals, coordinateRefusals, faceRefusals}
+use Rattle.terms.specs.PlaceCall.{placeRefusals, placeCode}
+use Rattle.theory.specs.Tested.{TestedPoints, TestedFaces, coordinate-place}
+use Rattle.theory.specs.FirstRefusal.{FirstHeld, noZero, first-held, passed-parts}
+use Rattle.theory.specs.FirstRefusalIsLowest.{Lowest, risesFrom, first-lowest}
+use Rattle.theory.specs.RefusalsPassed.{dimension-passed, length-passed, coordinates-passed, faces-passed}
+
+-- What the one-point test has tested: a stock of one point, and the faces.
+pub record PlacePassed (k : ℕ) (point : List ℤ) (f : Faces) : Type 0 where
+  pub tested : TestedPoints (stock k 1 point)
+  pub faced : TestedFaces k f
+
+module _ (k : ℕ) (point : List ℤ) (f : Faces) where
+  -- "Each call tests those that concern its arguments", in the order of testing; and 0 where none holds.
+  pub place-first : FirstHeld (placeRefusals k point f) (placeCode k point f)
+  unfolding noZero placeCode
+  place-first = first-held (placeRefusals k point f) refl
+
+  -- The numbers rise, so the first is the lowest: "the lowest that holds is returned".
+  pub place-lowest : Lowest (placeRefusals k point f) (placeCode k point f)
+  unfolding risesFrom placeCode
+  place-lowest = first-lowest 1 (placeRefusals k point f) (omega arith) refl
+
+-- "One-point test: 1, 3, 5 to 8."
+pub place-passed : (k : ℕ) (point : List ℤ) (f : Faces) → placeCode k point f ≡ 0 → PlacePassed k point f
+place-passed k point f e =
+    let D : List Refusal = dimensionRefusals k in
+    let L : List Refusal = lengthRefusals k point in
+    let C : List Refusal = coordinateRefusals point in
+    let F : List Refusal = faceRefusals k f in
+    let a = passed-parts D (L ++ C ++ F) (place-first k point f .done e) in
+    let b = passed-parts L (C ++ F) (a .1) in
+    let c = passed-parts C F (b .1) in
+    let d = dimension-passed k (a .0) in
+    let size : length point ≡ k * 1 = omega (arith, length-passed k point (b .0)) in
+    record {
+      tested = record {
+        some = d .0;
+        few = d .1;
+        many = omega arith;
+        size = size;
+        each = λ p e. record { ranges = λ i l. coordinates-passed point (c .0) _ (coordinate-place k 1 point size (ltb-true p 1 e) l) };
+      };
+      faced = faces-passed k f (c .1);
+    }
