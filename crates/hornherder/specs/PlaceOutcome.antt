@@ -6,13 +6,14 @@ use mathlib.Core.List.{List}
 use Prim.Native.Nat.{ℕ}
 use lib.IntN.{ℤ}
 use Rattle.terms.specs.Tests.{bit}
-use Rattle.terms.specs.Lent.{Faces}
-use Rattle.terms.specs.Points.{coord}
+use Rattle.terms.specs.Lent.{Faces, facesOf}
+use Rattle.terms.specs.Points.{lone}
 use Rattle.terms.specs.Region.{region, inside}
 use Rattle.terms.specs.PlaceCall.{placeRefusals, placeCode, placeAnswer}
 use Rattle.theory.specs.FirstRefusal.{if-refused}
 use Rattle.theory.specs.PlaceCall.{PlacePassed, place-passed}
-use Rattle.region.specs.Points.{lone-coord}
+use Rattle.theory.specs.PointsAlike.{inside-same-point}
+use Rattle.descent.specs.Points.{PointAt, lone-coord}
 use Rattle.hornherder.specs.First.{First}
 
 module _ (k : ℕ) (point : List ℤ) (f : Faces) {c : ℕ} (first : First (placeRefusals k point f) c) where
@@ -28,6 +29,7 @@ module _ (k : ℕ) (point : List ℤ) (f : Faces) {c : ℕ} (first : First (plac
   unfolding placeAnswer
   place-refused m = rw (← place-coded) (sym (if-refused c _ _ m))
 
-  pub place-done : c ≡ 0 → (t : Bool) → t ≡ inside (region k f) (coord k point 0) → record { code = 0; inside = bit t } ≡ placeAnswer k point f
+  pub place-done : c ≡ 0 → {x : List ℤ} → PointAt k point 0 x → (t : Bool) → t ≡ inside (region k (facesOf (f .normals) (f .offsets))) (lone x)
+      → record { code = 0; inside = bit t } ≡ placeAnswer k point f
   unfolding placeAnswer
-  place-done z t e = rw (← place-coded, z, e, lone-coord k point) refl
+  place-done z w t e = rw (← place-coded, z, e, place-tested z .faced .offsets-size, inside-same-point (region k f) (w .same), lone-coord k point) refl

@@ -3,6 +3,7 @@ use crate::refuse::coordinate_refusal;
 use crate::refuse::dimension_refusal;
 use crate::refuse::face_refusal;
 use crate::refuse::length_refusal;
+use descent::points::point_at;
 use region::faces::inside_all;
 use terms::Placing;
 ghost use mathlib.Core.Path.{_≡_};
@@ -28,7 +29,8 @@ pub extern "C" fn hornherder_place(
             inside: 0,
         };
     }
-    if inside_all(k, h, point, normals, offsets, 0) {
+    let x = point_at(k, point, 0);
+    if inside_all(k, x, normals, offsets) {
         return Placing { code: 0, inside: 1 };
     }
     Placing { code: 0, inside: 0 }

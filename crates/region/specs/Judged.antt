@@ -1,14 +1,14 @@
--- Judging a box against its live faces, in rising order: it is wholly below one of them, or these are left, which it is not wholly above.
--- A face that is not live is wholly above the box, so that it is below none where none of the live ones is.
+-- Judging a box against its live faces, in rising order: it is wholly below one of them, or wholly above all faces, or some are left, which it
+-- is neither above nor below. A face that is not live is wholly above the box, so that it is below none where none of the live ones is.
 use mathlib.Core.Path.{_≡_, refl, sym, _∙_}
 use mathlib.Core.Bool.{Bool, true, false, not}
 use mathlib.Core.Logic.{⊎-elim}
 use mathlib.Core.List.{List, [], _++_, append-nil}
-use Prim.Native.Nat.{ℕ, zero, suc, _+_, _≤_, _<_}
+use Prim.Native.Nat.{ℕ, _+_, _≤_, _<_}
 use native.Mathlib.Numerals.{add-one}
 use native.Mathlib.Omega.{arith}
 use lib.ListN.{length, getD, take, set, length-set}
-use lib.Seq.{take-suc-set}
+use lib.Seq.{getD-take, take-suc-set, length-take-le}
 use lib.IntN.{ℤ}
 use borrow.Author.Count.{below-more}
 use Rattle.terms.specs.Tests.{keep, pick}
@@ -16,43 +16,61 @@ use Rattle.terms.specs.Box.{Box}
 use Rattle.terms.specs.Region.{Region, whollyAbove, whollyBelow, isOpen}
 use Rattle.theory.specs.Flags.{clash, exclude}
 use Rattle.theory.specs.AllAndAny.{OneBelow}
-use Rattle.theory.specs.KeepingByPlace.{keep-next}
+use Rattle.theory.specs.KeepingByPlace.{ascend-back, keep-next}
 use Rattle.theory.specs.Boxes.{In}
 use Rattle.theory.specs.Nesting.{of-open}
 use Rattle.theory.specs.Containment.{wholly-above-point, wholly-below-point}
+use Rattle.region.specs.declared.judge.Judgement.{Judgement}
+use Rattle.region.specs.declared.judge.Judgement.the-variants.{Below, Above, Open}
 use Rattle.region.specs.Live.{Lives, Among, Kept, stillLive, lives-none, kept-not-above, lives-kept}
 
--- The answer for a box and the first count entries of its live faces.
-pub record Judged (g : Region) (b : Box) (face : List ℕ) (count : ℕ) (below : Bool) (next : List ℕ) (left : ℕ) : Type 0 where
-  pub below-one : below ≡ true → OneBelow (g .h) (whollyBelow g b) true
-  pub not-below : below ≡ false → (point : ℕ → ℤ) → In (g .k) b point → (i : ℕ) → i < g .h → whollyBelow g b i ≡ false
-  pub kept : below ≡ false → Kept g b face count next left
-  pub lives : below ≡ false → Lives g b next left
+-- The box is wholly below face i, which is live; where it has a point, it is below no face before that one.
+pub record LowestBelow (g : Region) (b : Box) (face : List ℕ) (count i : ℕ) : Type 0 where
+  pub live : Among i face count
+  pub known : i < g .h
+  pub below : whollyBelow g b i ≡ true
+  pub lowest : (point : ℕ → ℤ) → In (g .k) b point → (j : ℕ) → j < i → whollyBelow g b j ≡ false
+
+-- "Wholly above all of them": the box is wholly above every face.
+pub record AboveAll (g : Region) (b : Box) : Type 0 where
+  pub all : (i : ℕ) → i < g .h → whollyAbove g b i ≡ true
+
+-- The first left entries of the next list are the live faces that the box is not wholly above, and it is below no face.
+pub record StillOpen (g : Region) (b : Box) (face : List ℕ) (count : ℕ) (next : List ℕ) (left : ℕ) : Type 0 where
+  pub some : 0 < left
+  pub not-below : (point : ℕ → ℤ) → In (g .k) b point → (i : ℕ) → i < g .h → whollyBelow g b i ≡ false
+  pub kept : Kept g b face count next left
+  pub lives : Lives g b next left
+
+-- What each answer means for a box and the first count entries of its live faces.
+abbrev pub Judged : Region → Box → List ℕ → ℕ → Judgement → List ℕ → Type 0
+Judged g b face count (Below i) next = LowestBelow g b face count i
+Judged g b face count Above next = AboveAll g b
+Judged g b face count (Open left) next = StillOpen g b face count next left
 
 -- A box that is wholly above a face and has a point is not wholly below it.
 above-not-below : (g : Region) {b : Box} {point : ℕ → ℤ} → In (g .k) b point → (i : ℕ) → whollyAbove g b i ≡ true → whollyBelow g b i ≡ false
 above-not-below g w i e = exclude (wholly-below-point g w i) (wholly-above-point g w i e)
 
-module _ {g : Region} {b : Box} {face : List ℕ} {count : ℕ} {below : Bool} {next : List ℕ} {left : ℕ}
-    (j : Judged g b face count below next left) (e : below ≡ false) where
-  -- "Wholly above all of them": none is left.
-  pub judged-above : left ≡ 0 → (i : ℕ) → i < g .h → whollyAbove g b i ≡ true
-  judged-above = lives-none (j .lives e)
+-- "Wholly below at least one face": the lowest is one.
+pub judged-below : {g : Region} {b : Box} {face : List ℕ} {count i : ℕ} → LowestBelow g b face count i → OneBelow (g .h) (whollyBelow g b) true
+judged-below {i = i} j = (i, j .known, j .below)
 
-  -- And only then.
-  pub judged-none-left : ((i : ℕ) → i < g .h → whollyAbove g b i ≡ true) → left ≡ 0
-  judged-none-left all = go left refl
-    where
-      go : (n : ℕ) → left ≡ n → n ≡ 0
-      go zero z = refl
-      go (suc n) z =
-          let l : 0 < left = omega arith in
-          clash (all (getD next 0 0) (j .lives e .live .each 0 l)) (kept-not-above (j .kept e) 0 l)
+module _ {g : Region} {b : Box} {face : List ℕ} {count : ℕ} {next : List ℕ} {left : ℕ} (j : StillOpen g b face count next left) where
+  -- A face that is left is one that the box is not wholly above.
+  one-left : OneBelow (g .h) (whollyAbove g b) false
+  one-left = (getD next 0 0, j .lives .live .each 0 (j .some), kept-not-above (j .kept) 0 (j .some))
 
   -- "Otherwise it is open": one is left.
-  pub judged-open : {point : ℕ → ℤ} → In (g .k) b point → 0 < left → isOpen g b ≡ true
-  judged-open {point} w l =
-      of-open (record { not-below = j .not-below e point w; not-above = (getD next 0 0, j .lives e .live .each 0 l, kept-not-above (j .kept e) 0 l) })
+  pub judged-open : {point : ℕ → ℤ} → In (g .k) b point → isOpen g b ≡ true
+  judged-open {point} w = of-open (record { not-below = j .not-below point w; not-above = one-left })
+
+-- And only then: a box that is wholly above all, and has a point, gets no other answer.
+pub judged-above-only : (g : Region) {b : Box} (face : List ℕ) (count : ℕ) (answer : Judgement) (next : List ℕ) {point : ℕ → ℤ} → In (g .k) b point
+    → AboveAll g b → Judged g b face count answer next → answer ≡ Above
+judged-above-only g face count (Below i) next w a j = clash (j .below) (above-not-below g w i (a .all i (j .known)))
+judged-above-only g face count Above next w a j = refl
+judged-above-only g face count (Open left) next w a j = let one = one-left j in clash (a .all (one .0) (one .1)) (one .2)
 
 -- The loop: the first left entries of the next list are those of the first t live faces that the box is not above, and it is below none of them.
 pub record Judging (g : Region) (b : Box) (face : List ℕ) (count : ℕ) (next : List ℕ) (left t : ℕ) : Type 0 where
@@ -74,17 +92,33 @@ judging-none g b face count next long = record {
 
 module _ {g : Region} {b : Box} {face : List ℕ} {count : ℕ} {next : List ℕ} {left t : ℕ}
     (j : Judging g b face count next left t) (v : Lives g b face count) where
+  -- The box, which has a point, is below none of the faces that were judged.
+  seen-not-below : {point : ℕ → ℤ} → In (g .k) b point → (i : ℕ) → (a : Among i face count) → a .0 < t → whollyBelow g b i ≡ false
+  seen-not-below w i (s, m, e) n = go (whollyAbove g b i) refl
+    where
+      go : (u : Bool) → whollyAbove g b i ≡ u → whollyBelow g b i ≡ false
+      go true q = above-not-below g w i q
+      go false q = rw (← e) (j .not-below s n (rw e q))
+
   -- The next face, with what the two tests of it answer.
   module _ (l : t < count) where
-    -- The box is wholly below this face.
-    pub judging-cut : {below : Bool} → below ≡ whollyBelow g b (getD face t 0) → below ≡ true
-        → (after : List ℕ) (more : ℕ) → Judged g b face count true after more
-    judging-cut says e after more = record {
-      below-one = λ z. (getD face t 0, v .live .each t l, sym says ∙ e);
-      not-below = λ z. clash refl z;
-      kept = λ z. clash refl z;
-      lives = λ z. clash refl z;
+    -- The box is wholly below this face, and below none before it: each of those is wholly above or stands before it in the list.
+    pub judging-cut : {below : Bool} → below ≡ whollyBelow g b (getD face t 0) → below ≡ true → LowestBelow g b face count (getD face t 0)
+    judging-cut says e = record {
+      live = (t, l, refl);
+      known = v .live .each t l;
+      below = sym says ∙ e;
+      lowest = λ point w i m. let known = v .live .each t l in ⊎-elim (above-not-below g w i) (before-not-below w i m) (v .rest i (omega arith));
     }
+      where
+        before : (i : ℕ) → i < getD face t 0 → (a : Among i face count) → a .0 < t
+        before i m (s, n, e) =
+            let live = v .live in
+            ascend-back (live .rising) s t (omega (arith, length-take-le count face (omega arith)))
+            (rw (getD-take count face s 0 n, getD-take count face t 0 l, e) m)
+
+        before-not-below : {point : ℕ → ℤ} → In (g .k) b point → (i : ℕ) → i < getD face t 0 → Among i face count → whollyBelow g b i ≡ false
+        before-not-below w i m a = seen-not-below w i a (before i m a)
 
     next-live : (u : Bool) → whollyAbove g b (getD face t 0) ≡ u
         → stillLive g b face (t + 1) ≡ stillLive g b face t ++ pick (not u) (getD face t 0) []
@@ -120,25 +154,20 @@ module _ {g : Region} {b : Box} {face : List ℕ} {count : ℕ} {next : List ℕ
       not-below = not-below-next (λ z. sym tells ∙ n);
     }
 
-  live-not-below : count ≤ t → {point : ℕ → ℤ} → In (g .k) b point → (i : ℕ) → Among i face count → whollyBelow g b i ≡ false
-  live-not-below l w i (s, m, e) = go (whollyAbove g b i) refl
-    where
-      go : (u : Bool) → whollyAbove g b i ≡ u → whollyBelow g b i ≡ false
-      go true q = above-not-below g w i q
-      go false q = rw (← e) (j .not-below s (omega arith) (rw e q))
+  -- All are judged.
+  module _ (l : count ≤ t) where
+    kept-done : Kept g b face count next left
+    kept-done = let e : t ≡ count = omega arith in let live = v .live in record { long = j .long; few = omega arith; same = rw (← e) (j .same) }
 
-  pub judging-done : count ≤ t → Judged g b face count false next left
-  judging-done l =
-      let e : t ≡ count = omega arith in
-      let live = v .live in
-      let kept : Kept g b face count next left = record { long = j .long; few = omega arith; same = rw (← e) (j .same) } in
-      record {
-        below-one = λ z. clash z refl;
-        not-below = λ z point w i m.
-            ⊎-elim
-            (above-not-below g w i)
-            (λ a. live-not-below l w i a)
-            (v .rest i m);
-        kept = λ z. kept;
-        lives = λ z. lives-kept kept v;
-      }
+    -- None is left.
+    pub judging-done-above : left ≡ 0 → AboveAll g b
+    judging-done-above e = record { all = lives-none (lives-kept kept-done v) e }
+
+    -- One is left.
+    pub judging-done-open : 0 < left → StillOpen g b face count next left
+    judging-done-open some = record {
+      some = some;
+      not-below = λ point w i m. ⊎-elim (above-not-below g w i) (λ a. seen-not-below w i a (omega (arith, a .1))) (v .rest i m);
+      kept = kept-done;
+      lives = lives-kept kept-done v;
+    }

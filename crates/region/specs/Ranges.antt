@@ -69,7 +69,7 @@ abs-coordinate z r = omega (ints, abs-parts z)
 abs-component : (z : ℤ) → Between (negsuc 32766) z (pos 32767) → natAbs z ≤ 32767
 abs-component z r = omega (ints, abs-parts z)
 
-module _ {k at : ℕ} {normals : List ℤ} {x : ℕ → ℤ} (n : Components k at normals) (p : Coordinates k x) where
+module _ {k at : ℕ} {normals : List ℤ} {x : ℕ → ℤ} (p : Coordinates k x) (n : Components k at normals) where
   -- A product is at most 32,767 * 32,768.
   pub abs-product : (d : ℕ) → d < k → natAbs (products normals at x d) ≤ 1073709056
   abs-product d l = omega (

@@ -6,7 +6,7 @@ ghost use mathlib.Core.Path.{_≡_};
 ghost use Prim.Native.Nat.{_<_};
 ghost use lib.ListN.{set};
 ghost use Rattle.whole.specs.IndexedSum.{sumTo};
-ghost use Rattle.terms.specs.Lent.{faces};
+ghost use Rattle.terms.specs.Lent.{facesOf};
 ghost use Rattle.terms.specs.Points.{lone};
 ghost use Rattle.terms.specs.Box.{boxOf, leftBox, rightBox};
 ghost use Rattle.terms.specs.Region.{region, bySign, whollyAbove, whollyBelow};
@@ -22,9 +22,9 @@ fn by_sign(component: i32, first: i32, second: i32) -> i32
 }
 
 // The corner of a box that a face's signs choose: in each dimension the first row where the component is 0 or more, else the second.
-fn corner_of(normals: &[i32], at: usize, k: usize, first: [i32; 4], second: [i32; 4]) -> [i32; 4]
+fn corner_of(k: usize, first: [i32; 4], second: [i32; 4], normals: &[i32], at: usize) -> [i32; 4]
     requires { ⌜ Components k at (now normals) ⌝ }
-    ensures { λ r. ⌜ Corner (now (normals .entry)) at k first second r ⌝ }
+    ensures { λ r. ⌜ Corner k first second (now (normals .entry)) at r ⌝ }
 {
     let mut chosen: [i32; 4] = [0; 4];
     for d in 0..4 {
@@ -36,49 +36,35 @@ fn corner_of(normals: &[i32], at: usize, k: usize, first: [i32; 4], second: [i32
 }
 
 // The sum of products at that corner. With the rows low and high it is the corner furthest against the normal, with high and low the opposite one.
-pub fn corner_sum(normals: &[i32], at: usize, k: usize, first: [i32; 4], second: [i32; 4]) -> i64
-    requires { ⌜ Components k at (now normals) ⌝ }
+pub fn corner_sum(k: usize, first: [i32; 4], second: [i32; 4], normals: &[i32], at: usize) -> i64
     requires { ⌜ Coordinates k (lone first) ⌝ }
     requires { ⌜ Coordinates k (lone second) ⌝ }
-    ensures { λ r. ⌜ r ≡ sumTo k (products (now (normals .entry)) at (corner (now (normals .entry)) at (lone first) (lone second))) ⌝ }
+    requires { ⌜ Components k at (now normals) ⌝ }
+    ensures { λ r. ⌜ r ≡ sumTo k (products (now (normals .entry)) at (corner (lone first) (lone second) (now (normals .entry)) at)) ⌝ }
 {
-    sum(normals, at, corner_of(normals, at, k, first, second), k)
+    sum(k, corner_of(k, first, second, normals, at), normals, at)
 }
 
 // Whether a box is wholly above face i: its corner furthest against the normal is above.
-pub fn wholly_above(
-    k: usize,
-    h: usize,
-    normals: &[i32],
-    offsets: &[i64],
-    i: usize,
-    rows: CornerRows,
-) -> bool
-    requires { ⌜ HasFace k (faces h (now normals) (now offsets)) i ⌝ }
+pub fn wholly_above(k: usize, rows: CornerRows, normals: &[i32], offsets: &[i64], i: usize) -> bool
     requires { ⌜ BoxRanges k (boxOf rows) ⌝ }
-    ensures { λ r. ⌜ r ≡ whollyAbove (region k (faces h (now (normals .entry)) (now (offsets .entry)))) (boxOf rows) i ⌝ }
+    requires { ⌜ HasFace k (facesOf (now normals) (now offsets)) i ⌝ }
+    ensures { λ r. ⌜ r ≡ whollyAbove (region k (facesOf (now (normals .entry)) (now (offsets .entry)))) (boxOf rows) i ⌝ }
 {
     let low = rows.low;
     let high = rows.high;
-    above(corner_sum(normals, i * k, k, low, high), offsets[i])
+    above(corner_sum(k, low, high, normals, i * k), offsets[i])
 }
 
 // Whether a box is wholly below face i: the opposite corner is below.
-pub fn wholly_below(
-    k: usize,
-    h: usize,
-    normals: &[i32],
-    offsets: &[i64],
-    i: usize,
-    rows: CornerRows,
-) -> bool
-    requires { ⌜ HasFace k (faces h (now normals) (now offsets)) i ⌝ }
+pub fn wholly_below(k: usize, rows: CornerRows, normals: &[i32], offsets: &[i64], i: usize) -> bool
     requires { ⌜ BoxRanges k (boxOf rows) ⌝ }
-    ensures { λ r. ⌜ r ≡ whollyBelow (region k (faces h (now (normals .entry)) (now (offsets .entry)))) (boxOf rows) i ⌝ }
+    requires { ⌜ HasFace k (facesOf (now normals) (now offsets)) i ⌝ }
+    ensures { λ r. ⌜ r ≡ whollyBelow (region k (facesOf (now (normals .entry)) (now (offsets .entry)))) (boxOf rows) i ⌝ }
 {
     let low = rows.low;
     let high = rows.high;
-    !above(corner_sum(normals, i * k, k, high, low), offsets[i])
+    !above(corner_sum(k, high, low, normals, i * k), offsets[i])
 }
 
 // The row with its entry of dimension s replaced by x. Every entry is asked whether it is the one, so that no row has to be stored and read back.

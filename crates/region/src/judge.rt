@@ -4,55 +4,52 @@ use crate::boxes::wholly_below;
 use terms::CornerRows;
 ghost use mathlib.Core.Path.{_≡_};
 ghost use lib.ListN.{length};
-ghost use Rattle.terms.specs.Lent.{faces};
+ghost use Rattle.terms.specs.Lent.{facesOf};
 ghost use Rattle.terms.specs.Box.{boxOf};
 ghost use Rattle.terms.specs.Region.{region};
 ghost use Rattle.region.specs.Ranges.{BoxRanges, KnownFaces};
 ghost use Rattle.region.specs.Live.{Lives};
 ghost use Rattle.region.specs.Judged.{Judged};
 
-// What a box is found to be: wholly below a face; or not, and then so many faces are left. With none left it is wholly above all.
-pub struct Judgement {
-    pub below: bool,
-    pub left: usize,
+// What a box is found to be: wholly below a face, and this is the lowest; wholly above all; or open, and so many faces are left.
+pub enum Judgement {
+    Below(usize),
+    Above,
+    Open(usize),
 }
 
 // Judges a box against the first `count` faces of `live`, in rising order, up to the first that it is wholly below. Those that are left are
 // written to `next`.
 pub fn judge(
     k: usize,
-    h: usize,
+    rows: CornerRows,
     normals: &[i32],
     offsets: &[i64],
-    rows: CornerRows,
     live: &[u8; 32],
     count: usize,
     next: &mut [u8; 32],
 ) -> Judgement
-    requires { ⌜ KnownFaces k (faces h (now normals) (now offsets)) ⌝ }
     requires { ⌜ BoxRanges k (boxOf rows) ⌝ }
-    requires { ⌜ Lives (region k (faces h (now normals) (now offsets))) (boxOf rows) (now live) count ⌝ }
+    requires { ⌜ KnownFaces k (facesOf (now normals) (now offsets)) ⌝ }
+    requires { ⌜ Lives (region k (facesOf (now normals) (now offsets))) (boxOf rows) (now live) count ⌝ }
     requires { ⌜ length (now next) ≡ 32 ⌝ }
-    ensures { λ r. ⌜ Judged (region k (faces h (now (normals .entry)) (now (offsets .entry)))) (boxOf rows) (now (live .entry)) count
-        (r .below) (now (next .exit)) (r .left) ⌝ }
+    ensures { λ r. ⌜ Judged (region k (facesOf (now (normals .entry)) (now (offsets .entry)))) (boxOf rows) (now (live .entry)) count
+        r (now (next .exit)) ⌝ }
 {
     let mut left: usize = 0;
     for t in 0..count {
         let f = live[t];
         let i = f as usize;
-        if !wholly_above(k, h, normals, offsets, i, rows) {
-            if wholly_below(k, h, normals, offsets, i, rows) {
-                return Judgement {
-                    below: true,
-                    left: 0,
-                };
+        if !wholly_above(k, rows, normals, offsets, i) {
+            if wholly_below(k, rows, normals, offsets, i) {
+                return Judgement::Below(i);
             }
             next[left] = f;
             left += 1;
         }
     }
-    Judgement {
-        below: false,
-        left: left,
+    if left == 0 {
+        return Judgement::Above;
     }
+    Judgement::Open(left)
 }

@@ -3,4 +3,3 @@ pub mod boxes;
 pub mod faces;
 pub mod judge;
 pub mod live;
-pub mod points;

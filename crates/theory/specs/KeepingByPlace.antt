@@ -1,14 +1,17 @@
 -- What is kept of a list, place by place: each kept item passed and stood in the list, each that passed is kept, a rising list stays rising.
 -- All by going through the list once, with two cases at each item.
-use mathlib.Core.Path.{_≡_, refl}
+use mathlib.Core.Path.{_≡_, refl, ap}
 use mathlib.Core.Bool.{Bool, true, false}
+use mathlib.Core.Logic.{⊎-elim}
 use mathlib.Core.List.{List, [], _∷_, _++_}
 use Prim.Native.Nat.{ℕ, zero, suc, _+_, _<_}
-use native.Mathlib.Nat.{not-suc-le-zero, le-of-suc-le-suc}
+use native.Mathlib.Nat.{not-suc-le-zero, le-of-suc-le-suc, eq-or-lt-of-le}
 use native.Mathlib.Numerals.{add-one}
 use native.Mathlib.Omega.{arith}
 use lib.ListN.{length, getD, take}
 use lib.Seq.{take-suc}
+use lib.Dec.{ltb}
+use borrow.Author.Tests.{ltb-true, ltb-false}
 use Rattle.terms.specs.Tests.{keep, pick}
 use Rattle.theory.specs.Keeping.{keep-append}
 
@@ -48,6 +51,14 @@ kept-place {A} test z (x ∷ xs) (suc i) l e = go (test x) (kept-place test z xs
 -- Each number is greater than those before it.
 pub record Ascending (xs : List ℕ) : Type 0 where
   pub ascend : (i j : ℕ) → i < j → j < length xs → getD xs i 0 < getD xs j 0
+
+-- So a lesser number stands before a greater one.
+pub ascend-back : {xs : List ℕ} → Ascending xs → (i j : ℕ) → i < length xs → getD xs i 0 < getD xs j 0 → i < j
+ascend-back {xs} w i j l m = go (ltb i j) refl
+  where
+    go : (t : Bool) → ltb i j ≡ t → i < j
+    go true e = ltb-true i j e
+    go false e = ⊎-elim (λ same. absurd (omega (arith, ap (λ (k : ℕ). getD xs k 0) same))) (λ n. absurd (omega (arith, w .ascend j i n l))) (eq-or-lt-of-le (ltb-false i j e))
 
 pub keep-ascending : (test : ℕ → Bool) (xs : List ℕ) → Ascending xs → Ascending (keep test xs)
 unfolding keep

@@ -28,6 +28,7 @@ pub mod BoxFuel
 pub mod Nesting
 pub mod BoxesAlike
 pub mod Containment
+pub mod PointsAlike
 pub mod SumBound
 pub mod BoundBySteps
 pub mod SquareBound

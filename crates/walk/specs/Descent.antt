@@ -13,10 +13,10 @@ use Rattle.terms.specs.Box.{Box, boxOf}
 use Rattle.terms.specs.Region.{Region, region, inside}
 use Rattle.theory.specs.Tested.{Between}
 use Rattle.region.specs.Ranges.{BoxRanges, KnownFaces, left-ranges, right-ranges}
-use Rattle.region.specs.Points.{HasPoint}
 use Rattle.region.specs.Live.{Lives}
+use Rattle.descent.specs.Points.{HasPoint}
 use Rattle.walk.specs.declared.Tally.{Tally}
-use Rattle.walk.specs.declared.descent.Run.{Run}
+use Rattle.walk.specs.declared.parts.Run.{Run}
 use Rattle.walk.specs.Fill.{Placed}
 use Rattle.walk.specs.Slots.{runOf}
 use Rattle.walk.specs.Root.{Known}

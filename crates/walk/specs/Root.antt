@@ -24,7 +24,7 @@ use Rattle.theory.specs.Boxes.{In, Alike}
 use Rattle.theory.specs.BoxLaws.{held-root}
 use Rattle.theory.specs.RootBoxOfSame.{root-between}
 use Rattle.region.specs.Ranges.{BoxRanges}
-use Rattle.region.specs.Points.{HasPoint, has-point}
+use Rattle.descent.specs.Points.{HasPoint, has-point}
 
 -- Every slot holds the number of a point.
 pub record Known (k : ℕ) (points : List ℤ) (order : List ℕ) : Type 0 where

@@ -23,7 +23,7 @@ use Rattle.theory.specs.BoxLaws.{held-root, held-alike}
 use Rattle.theory.specs.BoxFuel.{visits-count}
 use Rattle.theory.specs.BoxesAlike.{opens-alike}
 use Rattle.theory.specs.Tested.{TestedPoints, TestedFaces}
-use Rattle.region.specs.Points.{HasPoint, has-point}
+use Rattle.descent.specs.Points.{HasPoint, has-point}
 use Rattle.walk.specs.Fill.{filled-all}
 use Rattle.walk.specs.Slots.{runOf}
 use Rattle.walk.specs.Root.{Known, root-ranges}

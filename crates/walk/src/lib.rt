@@ -1,11 +1,10 @@
 // The walk of a shelf against a region: the stock inside from the front of the list, the stock outside from its back, and the visits.
 mod copiers;
-mod descent;
-mod points;
+mod parts;
 mod root;
 
-use descent::Run;
-use descent::branch;
+use parts::Run;
+use parts::branch;
 use region::live::all_faces;
 use root::root_box;
 ghost use mathlib.Core.Path.{_≡_};

@@ -1,9 +1,11 @@
--- A refusal is the answer; where all was passed, the test of the one point against all faces is.
+-- A refusal is the answer; where all was passed, the test of the one point, read into a value, against all faces is.
 use mathlib.Core.Path.{sym, _∙_}
 use mathlib.Core.Bool.{true, false}
 use native.Mathlib.Omega.{arith}
 use borrow.Author.Needs.{needs}
-use Rattle.region.specs.Points.{has-point}
+use Rattle.terms.specs.Lent.{faces}
+use Rattle.theory.specs.PlaceCall.{PlacePassed}
+use Rattle.descent.specs.Points.{has-point}
 use Rattle.hornherder.specs.PlaceOutcome.{place-tested, place-refused, place-done}
 use Rattle.hornherder.proofs.place.hornherder_place.Statement.{statement}
 use Rattle.hornherder.proofs.place.hornherder_place.Tie as tie
@@ -14,18 +16,28 @@ place-refusal-requires c κs = search needs
 returns : tie.Need-returns
 returns c = place-refused _ _ _ (c .before .place-refusal .ensures) (c .if1 .taken)
 
+-- What was tested.
+passed : (c : tie.Else1) → let a = c .before .before .args in PlacePassed (a .k) (a .point .now) (faces (a .h) (a .normals .now) (a .offsets .now))
+passed c = place-tested _ _ _ (c .before .place-refusal .ensures) (c .if1 .left)
+
+point-at-requires : tie.Need-point-at-requires
+point-at-requires c κs = has-point (passed c .tested) (omega arith)
+
 inside-all-requires : tie.Need-inside-all-requires
 inside-all-requires c κs =
-    let passed = place-tested _ _ _ (c .before .place-refusal .ensures) (c .if1 .left) in
-    (record { few = passed .tested .few; tested = passed .faced }, has-point (passed .tested) (omega arith))
+    let t = passed (c .before) in
+    (c .point-at .ensures .ranges, record { few = t .tested .few; tested = rw (t .faced .offsets-size) (t .faced) })
 
 returns-2 : tie.Need-returns-2
 returns-2 c =
-    place-done _ _ _ (c .before .before .before .place-refusal .ensures) (c .before .before .if1 .left) true (sym (c .if2 .taken) ∙ c .before .inside-all .ensures)
+    let b = c .before .before in
+    place-done _ _ _ (b .before .before .place-refusal .ensures) (b .before .if1 .left) (b .point-at .ensures) true (sym (c .if2 .taken) ∙ c .before .inside-all .ensures)
 
 returns-3 : tie.Need-returns-3
 returns-3 c =
-    place-done _ _ _ (c .before .before .before .place-refusal .ensures) (c .before .before .if1 .left) false (sym (c .if2 .left) ∙ c .before .inside-all .ensures)
+    let b = c .before .before in
+    place-done _ _ _ (b .before .before .place-refusal .ensures) (b .before .if1 .left) (b .point-at .ensures) false (sym (c .if2 .left) ∙ c .before .inside-all .ensures)
 
 pub hornherder-place-spec : {M : Type 1} → statement M
-hornherder-place-spec = tie.close (tie.spec place-refusal-requires returns inside-all-requires returns-2 returns-3)
+hornherder-place-spec =
+    tie.close (tie.spec place-refusal-requires returns point-at-requires inside-all-requires returns-2 returns-3)

@@ -13,10 +13,10 @@ use Rattle.region.proofs.boxes.corner_of.Statement.{statement}
 use Rattle.region.proofs.boxes.corner_of.Tie as tie
 
 abbrev Inv-loop : tie.InvT-loop
-Inv-loop normals at k first second chosen₀ d₀ chosen d = FilledTo k (corner normals at (lone first) (lone second)) d chosen
+Inv-loop k normals at first second chosen₀ d₀ chosen d = FilledTo k (corner (lone first) (lone second) normals at) d chosen
 
 abbrev μ-loop : tie.MeasureT-loop
-μ-loop normals at k first second chosen₀ d₀ chosen d = 4 - d
+μ-loop k normals at first second chosen₀ d₀ chosen d = 4 - d
 
 loop-holds : tie.Need-loop-holds Inv-loop μ-loop
 loop-holds c = filled-none _ _ _ refl

@@ -10,7 +10,7 @@ corner-of-requires : tie.Need-corner-of-requires
 corner-of-requires c κs = search needs
 
 sum-requires : tie.Need-sum-requires
-sum-requires c κs = (c .before .pre .0, chosen-ranges (c .corner-of .ensures) (c .before .pre .1 .0) (c .before .pre .1 .1))
+sum-requires c κs = (chosen-ranges (c .corner-of .ensures) (c .before .pre .0) (c .before .pre .1 .0), c .before .pre .1 .1)
 
 returns : tie.Need-returns
 returns c = rw (toZ-ofZ (sfits-of (c .sum .ok))) (c .sum .ensures ∙ chosen-sum (c .before .corner-of .ensures))

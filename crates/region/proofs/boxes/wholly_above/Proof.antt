@@ -4,7 +4,7 @@ use native.Mathlib.Omega.{arith}
 use borrow.Author.Needs.{sfits-of, needs}
 use mir.Facts.{toZ-ofZ}
 use Rattle.whole.specs.Fits.{sfits-mag}
-use Rattle.terms.specs.Lent.{faces}
+use Rattle.terms.specs.Lent.{facesOf}
 use Rattle.terms.specs.Box.{boxOf}
 use Rattle.terms.specs.Region.{region, reach, aboveAt, against}
 use Rattle.region.specs.Ranges.{face-components}
@@ -12,7 +12,7 @@ use Rattle.region.proofs.boxes.wholly_above.Statement.{statement}
 use Rattle.region.proofs.boxes.wholly_above.Tie as tie
 
 mul-corner-sum : tie.Need-mul-corner-sum
-mul-corner-sum c = omega (arith, face-components (c .before .before .pre .0))
+mul-corner-sum c = omega (arith, face-components (c .before .before .pre .1))
 
 corner-sum-requires : tie.Need-corner-sum-requires
 corner-sum-requires c κs = search (needs, face-components)
@@ -29,7 +29,7 @@ above-requires c κs = search needs
 returns : tie.Need-returns
 returns c =
     let s = c .before .before .before .before .before in
-    let g = region (s .args .k) (faces (s .args .h) (s .args .normals .now) (s .args .offsets .now)) in
+    let g = region (s .args .k) (facesOf (s .args .normals .now) (s .args .offsets .now)) in
     let reached : c .before .before .corner-sum .result ≡ reach g (s .args .i) (against g (s .args .i) (boxOf (s .args .rows))) =
     c .before .before .corner-sum .ensures in
     c .above .ensures g (s .args .i) (sym (toZ-ofZ (sfits-mag (c .before .above-arg .given))))

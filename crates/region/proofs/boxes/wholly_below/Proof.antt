@@ -5,7 +5,7 @@ use native.Mathlib.Omega.{arith}
 use borrow.Author.Needs.{sfits-of, needs}
 use mir.Facts.{toZ-ofZ}
 use Rattle.whole.specs.Fits.{sfits-mag}
-use Rattle.terms.specs.Lent.{faces}
+use Rattle.terms.specs.Lent.{facesOf}
 use Rattle.terms.specs.Box.{boxOf}
 use Rattle.terms.specs.Region.{region, reach, aboveAt, along}
 use Rattle.region.specs.Ranges.{face-components}
@@ -13,7 +13,7 @@ use Rattle.region.proofs.boxes.wholly_below.Statement.{statement}
 use Rattle.region.proofs.boxes.wholly_below.Tie as tie
 
 mul-corner-sum : tie.Need-mul-corner-sum
-mul-corner-sum c = omega (arith, face-components (c .before .before .pre .0))
+mul-corner-sum c = omega (arith, face-components (c .before .before .pre .1))
 
 corner-sum-requires : tie.Need-corner-sum-requires
 corner-sum-requires c κs = search (needs, face-components)
@@ -30,7 +30,7 @@ above-requires c κs = search needs
 returns : tie.Need-returns
 returns c =
     let s = c .before .before .before .before .before in
-    let g = region (s .args .k) (faces (s .args .h) (s .args .normals .now) (s .args .offsets .now)) in
+    let g = region (s .args .k) (facesOf (s .args .normals .now) (s .args .offsets .now)) in
     let reached : c .before .before .corner-sum .result ≡ reach g (s .args .i) (along g (s .args .i) (boxOf (s .args .rows))) =
     c .before .before .corner-sum .ensures in
     ap

@@ -1,46 +1,36 @@
 -- `inside_all` meets its contract. After i turns the point is above the first i faces.
-use mathlib.Core.Path.{_≡_, sym}
+use mathlib.Core.Path.{_≡_, sym, _∙_}
 use mathlib.Core.Bool.{true}
 use Prim.Native.Nat.{ℕ, _≤_, _<_, _-_}
 use native.Mathlib.Omega.{arith}
 use borrow.Author.Count.{below-more}
-use borrow.Author.Needs.{needs}
-use Rattle.terms.specs.Lent.{faces}
-use Rattle.terms.specs.Points.{coord}
+use Rattle.terms.specs.Lent.{facesOf}
+use Rattle.terms.specs.Points.{lone}
 use Rattle.terms.specs.Region.{region, above, inside}
 use Rattle.theory.specs.Flags.{not-true, not-false}
 use Rattle.theory.specs.AllAndAny.{each-all, one-all-false}
-use Rattle.region.specs.Points.{point-told}
 use Rattle.region.proofs.faces.inside_all.Statement.{statement}
 use Rattle.region.proofs.faces.inside_all.Tie as tie
 
 abbrev Inv-loop : tie.InvT-loop
-Inv-loop k h points normals offsets p x i₀ i =
-    (i ≤ h) × ((j : ℕ) → j < i → above (region k (faces h normals offsets)) j (coord k points p) ≡ true)
+Inv-loop k x normals offsets i₀ h i =
+    (i ≤ h) × ((j : ℕ) → j < i → above (region k (facesOf normals offsets)) j (lone x) ≡ true)
 
 abbrev μ-loop : tie.MeasureT-loop
-μ-loop k h points normals offsets p x i₀ i = h - i
-
-point-at-requires : tie.Need-point-at-requires Inv-loop μ-loop
-point-at-requires c κs = search needs
+μ-loop k x normals offsets i₀ h i = h - i
 
 loop-holds : tie.Need-loop-holds Inv-loop μ-loop
 loop-holds c = (omega arith, λ j l. absurd (omega arith))
 
 point-above-requires : tie.Need-point-above-requires Inv-loop μ-loop
-point-above-requires c κs =
-    let s = c .before .before .before in
-    (record { all = s .pre .0; known = c .loop-test .taken }, c .before .before .point-at .ensures .ranges)
+point-above-requires c κs = let s = c .before .before in (s .pre .0, record { all = s .pre .1; known = c .loop-test .taken })
 
 returns : tie.Need-returns Inv-loop μ-loop
 unfolding inside
 returns c =
     let b = c .before .before in
-    let w = b .before .before .point-at .ensures in
-    let a = b .before .before .before .args in
-    let g = region (a .k) (faces (a .h) (a .normals .now) (a .offsets .now)) in
     let no = not-true (c .before .point-above .result) (c .if1 .taken) in
-    sym (one-all-false _ _ (b .before .loop .i, b .loop-test .taken, point-told g w (b .before .loop .i) (c .before .point-above .ensures) no))
+    sym (one-all-false _ _ (b .before .loop .i, b .loop-test .taken, sym (c .before .point-above .ensures) ∙ no))
 
 add-i : tie.Need-add-i Inv-loop μ-loop
 add-i c = omega arith
@@ -51,11 +41,8 @@ loop-less c = omega arith
 loop-again : tie.Need-loop-again Inv-loop μ-loop
 loop-again c =
     let b = c .before .before in
-    let w = b .before .before .point-at .ensures in
-    let a = b .before .before .before .args in
-    let g = region (a .k) (faces (a .h) (a .normals .now) (a .offsets .now)) in
     let yes = not-false (c .before .point-above .result) (c .if1 .left) in
-    (omega arith, below-more _ (b .before .loop .i) (b .before .loop .inv .1) (point-told g w (b .before .loop .i) (c .before .point-above .ensures) yes))
+    (omega arith, below-more _ (b .before .loop .i) (b .before .loop .inv .1) (sym (c .before .point-above .ensures) ∙ yes))
 
 returns-2 : tie.Need-returns-2 Inv-loop μ-loop
 unfolding inside
@@ -67,7 +54,6 @@ inside-all-spec =
     (tie.spec
     Inv-loop
     μ-loop
-    point-at-requires
     loop-holds
     point-above-requires
     returns

@@ -4,17 +4,17 @@ use native.Mathlib.Omega.{arith}
 use borrow.Author.Needs.{needs, sfits-of}
 use mir.Facts.{toZ-ofZ}
 use Rattle.whole.specs.Fits.{sfits-mag}
-use Rattle.terms.specs.Lent.{faces}
+use Rattle.terms.specs.Lent.{facesOf}
 use Rattle.terms.specs.Region.{region, aboveAt}
 use Rattle.region.specs.Ranges.{face-components}
 use Rattle.region.proofs.faces.point_above.Statement.{statement}
 use Rattle.region.proofs.faces.point_above.Tie as tie
 
 mul-sum : tie.Need-mul-sum
-mul-sum c = omega (arith, face-components (c .pre .0))
+mul-sum c = omega (arith, face-components (c .pre .1))
 
 sum-requires : tie.Need-sum-requires
-sum-requires c κs = (face-components (c .pre .0), c .pre .1)
+sum-requires c κs = (c .pre .0, face-components (c .pre .1))
 
 mul-above : tie.Need-mul-above
 mul-above c = search needs
@@ -28,7 +28,7 @@ above-requires c κs = search needs
 returns : tie.Need-returns
 returns c =
     let s = c .before .before .before in
-    let g = region (s .args .k) (faces (s .args .h) (s .args .normals .now) (s .args .offsets .now)) in
+    let g = region (s .args .k) (facesOf (s .args .normals .now) (s .args .offsets .now)) in
     c .above .ensures g (s .args .i) (sym (toZ-ofZ (sfits-mag (c .before .above-arg .given))))
     ∙ ap (aboveAt g (s .args .i)) (toZ-ofZ (sfits-of (c .before .before .sum .ok)) ∙ c .before .before .sum .ensures)
 

@@ -16,10 +16,10 @@ use Rattle.region.proofs.faces.sum.Statement.{statement}
 use Rattle.region.proofs.faces.sum.Tie as tie
 
 abbrev Inv-loop : tie.InvT-loop
-Inv-loop normals at k x total₀ d₀ total d = SummedTo k (products normals at (lone x)) d (toZ w64 total)
+Inv-loop k normals at x total₀ d₀ total d = SummedTo k (products normals at (lone x)) d (toZ w64 total)
 
 abbrev μ-loop : tie.MeasureT-loop
-μ-loop normals at k x total₀ d₀ total d = 4 - d
+μ-loop k normals at x total₀ d₀ total d = 4 - d
 
 loop-holds : tie.Need-loop-holds Inv-loop μ-loop
 loop-holds c = summed-none _ _
@@ -55,7 +55,7 @@ component : (c : tie.After-total2 Inv-loop μ-loop)
 component c = sfits-mag (c .before .total .given)
 
 coordinate : (c : tie.After-total2 Inv-loop μ-loop)
-    → SFits w32 (getD (c .before .before .before .before .before .args .t3) (c .before .before .before .before .loop .d) (pos 0))
+    → SFits w32 (getD (c .before .before .before .before .before .args .t2) (c .before .before .before .before .loop .d) (pos 0))
 coordinate c = sfits-mag (c .total2 .given)
 
 mul-total-3 : tie.Need-mul-total-3 Inv-loop μ-loop
@@ -93,7 +93,7 @@ loop-again c =
 
 returns : tie.Need-returns Inv-loop μ-loop
 returns c =
-    let few : c .before .before .args .k ≤ 4 = c .before .before .pre .0 .few in
+    let few : c .before .before .args .k ≤ 4 = c .before .before .pre .1 .few in
     c .before .loop .inv .from-k (omega arith)
 
 pub sum-spec : {M : Type 1} → statement M

@@ -1,29 +1,24 @@
 -- `inside_live` meets its contract. After t turns the point is above the first t live faces; a point in the box that is above all live faces is inside.
-use mathlib.Core.Path.{_≡_}
+use mathlib.Core.Path.{_≡_, sym, _∙_}
 use mathlib.Core.Bool.{true}
 use Prim.Native.Nat.{ℕ, _≤_, _<_, _-_}
 use native.Mathlib.Omega.{arith}
 use lib.ListN.{getD}
-use borrow.Author.Needs.{needs}
 use borrow.Author.Count.{below-more}
-use Rattle.terms.specs.Lent.{faces}
-use Rattle.terms.specs.Points.{coord}
+use Rattle.terms.specs.Lent.{facesOf}
+use Rattle.terms.specs.Points.{lone}
 use Rattle.terms.specs.Region.{region, above}
 use Rattle.theory.specs.Flags.{not-true, not-false}
-use Rattle.region.specs.Points.{point-told}
 use Rattle.region.specs.Live.{live-inside, live-outside}
 use Rattle.region.proofs.live.inside_live.Statement.{statement}
 use Rattle.region.proofs.live.inside_live.Tie as tie
 
 abbrev Inv-loop : tie.InvT-loop
-Inv-loop k h points normals offsets p live count x t₀ t =
-    (t ≤ count) × ((s : ℕ) → s < t → above (region k (faces h normals offsets)) (getD live s 0) (coord k points p) ≡ true)
+Inv-loop k x normals offsets live count t₀ t =
+    (t ≤ count) × ((s : ℕ) → s < t → above (region k (facesOf normals offsets)) (getD live s 0) (lone x) ≡ true)
 
 abbrev μ-loop : tie.MeasureT-loop
-μ-loop k h points normals offsets p live count x t₀ t = count - t
-
-point-at-requires : tie.Need-point-at-requires Inv-loop μ-loop
-point-at-requires c κs = search needs
+μ-loop k x normals offsets live count t₀ t = count - t
 
 loop-holds : tie.Need-loop-holds Inv-loop μ-loop
 loop-holds c = (omega arith, λ s l. absurd (omega arith))
@@ -33,25 +28,19 @@ element-copy-out-point-above c = omega arith
 
 cast-point-above : tie.Need-cast-point-above Inv-loop μ-loop
 cast-point-above c =
-    let s = c .before .before .before .before in
-    omega (arith, s .pre .1 .1 .each (c .before .before .loop .t) (c .before .loop-test .taken), s .pre .0 .tested)
+    let s = c .before .before .before in
+    omega (arith, s .pre .1 .1 .each (c .before .before .loop .t) (c .before .loop-test .taken), s .pre .1 .0 .tested)
 
 point-above-requires : tie.Need-point-above-requires Inv-loop μ-loop
 point-above-requires c κs =
-    let s = c .before .before .before .before in (
-      record { all = s .pre .0; known = s .pre .1 .1 .each (c .before .before .loop .t) (c .before .loop-test .taken) },
-      c .before .before .before .point-at .ensures .ranges,
-    )
+    let s = c .before .before .before in
+    (s .pre .0, record { all = s .pre .1 .0; known = s .pre .1 .1 .each (c .before .before .loop .t) (c .before .loop-test .taken) })
 
 returns : tie.Need-returns Inv-loop μ-loop
 returns c =
     let b = c .before .before .before in
-    let w = b .before .before .point-at .ensures in
-    let a = b .before .before .before .args in
-    let g = region (a .k) (faces (a .h) (a .normals .now) (a .offsets .now)) in
-    let i = getD (a .live .now) (b .before .loop .t) 0 in
     let no = not-true (c .before .point-above .result) (c .if1 .taken) in
-    live-outside (b .before .loop .t) (b .loop-test .taken) (point-told g w i (c .before .point-above .ensures) no)
+    live-outside (b .before .loop .t) (b .loop-test .taken) (sym (c .before .point-above .ensures) ∙ no)
 
 add-t : tie.Need-add-t Inv-loop μ-loop
 add-t c = omega arith
@@ -62,12 +51,8 @@ loop-less c = omega arith
 loop-again : tie.Need-loop-again Inv-loop μ-loop
 loop-again c =
     let b = c .before .before .before in
-    let w = b .before .before .point-at .ensures in
-    let a = b .before .before .before .args in
-    let g = region (a .k) (faces (a .h) (a .normals .now) (a .offsets .now)) in
-    let i = getD (a .live .now) (b .before .loop .t) 0 in
     let yes = not-false (c .before .point-above .result) (c .if1 .left) in
-    (omega arith, below-more _ (b .before .loop .t) (b .before .loop .inv .1) (point-told g w i (c .before .point-above .ensures) yes))
+    (omega arith, below-more _ (b .before .loop .t) (b .before .loop .inv .1) (sym (c .before .point-above .ensures) ∙ yes))
 
 returns-2 : tie.Need-returns-2 Inv-loop μ-loop
 returns-2 c = live-inside (λ t l. c .before .loop .inv .1 t (omega arith))
@@ -78,7 +63,6 @@ inside-live-spec =
     (tie.spec
     Inv-loop
     μ-loop
-    point-at-requires
     loop-holds
     element-copy-out-point-above
     cast-point-above

@@ -2,8 +2,8 @@
 use mathlib.Core.Path.{refl}
 use mir.Facts.{toZ-ofZ}
 use borrow.Author.Needs.{needs}
-use Rattle.walk.proofs.descent.right_run.Statement.{statement}
-use Rattle.walk.proofs.descent.right_run.Tie as tie
+use Rattle.walk.proofs.parts.right_run.Statement.{statement}
+use Rattle.walk.proofs.parts.right_run.Tie as tie
 
 right-box-requires : tie.Need-right-box-requires
 right-box-requires c κs = search needs

@@ -2,8 +2,8 @@
 use mathlib.Core.Path.{refl}
 use mir.Facts.{toZ-ofZ}
 use borrow.Author.Needs.{needs}
-use Rattle.walk.proofs.descent.left_run.Statement.{statement}
-use Rattle.walk.proofs.descent.left_run.Tie as tie
+use Rattle.walk.proofs.parts.left_run.Statement.{statement}
+use Rattle.walk.proofs.parts.left_run.Tie as tie
 
 left-box-requires : tie.Need-left-box-requires
 left-box-requires c κs = search needs

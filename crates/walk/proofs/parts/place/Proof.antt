@@ -4,8 +4,8 @@ use Prim.Native.Nat.{_+_, _-_}
 use native.Mathlib.Omega.{arith}
 use Rattle.walk.specs.Fill.{filled-in, filled-out}
 use borrow.Author.Needs.{needs}
-use Rattle.walk.proofs.descent.place.Statement.{statement}
-use Rattle.walk.proofs.descent.place.Tie as tie
+use Rattle.walk.proofs.parts.place.Statement.{statement}
+use Rattle.walk.proofs.parts.place.Tie as tie
 
 mul-list : tie.Need-mul-list
 mul-list c = search needs

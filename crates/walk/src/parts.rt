@@ -2,9 +2,11 @@
 use crate::Tally;
 use crate::copiers::copy_inside;
 use crate::copiers::copy_outside;
-use crate::points::coordinate;
+use descent::points::coordinate;
+use descent::points::point_at;
 use region::boxes::left_box;
 use region::boxes::right_box;
+use region::judge::Judgement;
 use region::judge::judge;
 use region::live::inside_live;
 use terms::CornerRows;
@@ -87,24 +89,27 @@ pub fn branch(
     if c == 0 {
         return tally;
     }
-    let h = offsets.len();
     let mut next = [0u8; 32];
-    let judged = judge(k, h, normals, offsets, run.rows, live, run.count, &mut next);
+    let judged = judge(k, run.rows, normals, offsets, live, run.count, &mut next);
     let e = a + c;
-    if judged.below {
-        let end = list.len() - (a - tally.inside);
-        copy_outside(&order[a..e], list, end);
-        return tally;
+    match judged {
+        Judgement::Below(_) => {
+            let end = list.len() - (a - tally.inside);
+            copy_outside(&order[a..e], list, end);
+            return tally;
+        }
+        Judgement::Above => {
+            let mut settled = tally;
+            copy_inside(&order[a..e], list, tally.inside);
+            settled.inside += c;
+            return settled;
+        }
+        Judgement::Open(left) => {
+            let mut open = run;
+            open.count = left;
+            return node(k, points, order, normals, offsets, open, &next, list, tally);
+        }
     }
-    if judged.left == 0 {
-        let mut settled = tally;
-        copy_inside(&order[a..e], list, tally.inside);
-        settled.inside += c;
-        return settled;
-    }
-    let mut open = run;
-    open.count = judged.left;
-    node(k, points, order, normals, offsets, open, &next, list, tally)
 }
 
 // The part for the node of an open branch: one visit, the left branch, its own number by its own test, the right branch. A node alone in its
@@ -127,17 +132,17 @@ fn node(
 {
     let middle = run.start + run.length / 2;
     let p = order[middle];
-    let h = offsets.len();
-    let inside = inside_live(k, h, points, normals, offsets, p as usize, live, run.count);
+    let x = point_at(k, points, p as usize);
+    let inside = inside_live(k, x, normals, offsets, live, run.count);
     let mut start = tally;
     start.visits += 1;
     if run.length == 1 {
         return place(inside, p, list, middle, start);
     }
-    let x = coordinate(k, points, p, run.axis);
+    let split = coordinate(k, points, p as usize, run.axis);
     let next = next_axis(k, run.axis);
-    let left = left_run(run, x, next);
-    let right = right_run(run, x, next);
+    let left = left_run(run, split, next);
+    let right = right_run(run, split, next);
     let first = branch(k, points, order, normals, offsets, left, live, list, start);
     let own = place(inside, p, list, middle, first);
     branch(k, points, order, normals, offsets, right, live, list, own)

@@ -1,18 +1,19 @@
--- A point read into a value of four places.
-use mathlib.Core.Path.{_≡_, sym, ap, fun-ext, _∙_}
+-- The points that are lent, and one of them read into a value of four places.
+use mathlib.Core.Path.{_≡_, ap, fun-ext, _∙_}
 use mathlib.Core.Bool.{Bool}
 use mathlib.Core.List.{List}
 use Prim.Native.Nat.{ℕ, suc, _+_, _*_, _≤_, _<_}
 use native.Mathlib.Nat.{mul-le-mul}
 use native.Mathlib.Omega.{arith}
 use lib.ListN.{length, getD}
-use lib.IntN.{ℤ, pos, _*ℤ_}
-use Rattle.whole.specs.IndexedSum.{sum-same}
+use lib.IntN.{ℤ, pos}
 use borrow.Author.Tests.{lt-ltb}
 use Rattle.terms.specs.Lent.{Stock}
 use Rattle.terms.specs.Points.{lone, coord}
-use Rattle.terms.specs.Region.{Region, aboveAt, above}
+use Rattle.terms.specs.Region.{Region}
 use Rattle.theory.specs.Tested.{Coordinates, TestedPoints}
+use Rattle.theory.specs.PointsAlike.{SamePoint, same-point-sym, in-same-point, inside-same-point}
+use Rattle.region.specs.Live.{InsideByLive}
 
 -- The lent points have a point p of k coordinates, in range.
 pub record HasPoint (k : ℕ) (points : List ℤ) (p : ℕ) : Type 0 where
@@ -31,12 +32,12 @@ has-point {s} {p} t l =
 pub lone-coord : (k : ℕ) (point : List ℤ) → coord k point 0 ≡ lone point
 lone-coord k point = fun-ext (λ d. ap (λ (place : ℕ). getD point place (pos 0)) (omega arith))
 
--- The value holds the coordinates of point p.
+-- The value holds the coordinates of point p, which are in range.
 pub record PointAt (k : ℕ) (points : List ℤ) (p : ℕ) (x : List ℤ) : Type 0 where
-  pub same : (d : ℕ) → d < k → lone x d ≡ coord k points p d
+  pub same : SamePoint k (lone x) (coord k points p)
   pub ranges : Coordinates k (lone x)
 
--- What is told of the value is told of the point.
-pub point-told : (g : Region) {points : List ℤ} {p : ℕ} {x : List ℤ} → PointAt (g .k) points p x → (i : ℕ) {answer t : Bool}
-    → answer ≡ above g i (lone x) → answer ≡ t → above g i (coord (g .k) points p) ≡ t
-point-told g w i e q = ap (aboveAt g i) (sum-same (g .k) _ _ (λ d l. ap (λ (z : ℤ). g .component i d *ℤ z) (sym (w .same d l)))) ∙ sym e ∙ q
+-- What the live faces tell of the value they tell of the point.
+pub point-told : {g : Region} {points : List ℤ} {p : ℕ} {x : List ℤ} {face : List ℕ} {count : ℕ} {answer : Bool} → PointAt (g .k) points p x
+    → InsideByLive g face count (lone x) answer → InsideByLive g face count (coord (g .k) points p) answer
+point-told {g} w i = record { tells = λ v l. i .tells v (in-same-point (same-point-sym (w .same)) l) ∙ inside-same-point g (w .same) }

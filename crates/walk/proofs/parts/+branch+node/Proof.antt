@@ -1,10 +1,10 @@
 -- The node part and the branch part, which call each other: the measure is twice the run's length, and one more for the branch part.
 -- A branch that is judged settled goes to a copier; an open one to its node, whose two branches' boxes and live faces nest in its own.
 use mathlib.Core.Path.{_≡_, refl}
-use Prim.Native.Nat.{ℕ, _<_, _+_, _-_, _/_}
+use Prim.Native.Nat.{ℕ, _<_, _+_, _-_, _/_, _^_}
 use native.Mathlib.Nat.{mod-eq-of-lt}
 use native.Mathlib.Omega.{arith}
-use borrow.Author.Needs.{sfits-of}
+use borrow.Author.Needs.{needs, sfits-of}
 use mir.Syntax.{w32}
 use mir.Facts.{toZ-ofZ}
 use Rattle.terms.specs.Points.{coord}
@@ -12,30 +12,32 @@ use Rattle.terms.specs.Run.{axis}
 use Rattle.terms.specs.Box.{boxOf, leftBox, rightBox}
 use Rattle.theory.specs.BoxLaws.{left-nested, right-nested}
 use Rattle.region.specs.Live.{lives-nested}
-use Rattle.region.specs.Judged.{judged-above, judged-open}
+use Rattle.region.specs.Judged.{judged-below, judged-open}
+use Rattle.descent.specs.Points.{point-told}
 use Rattle.walk.specs.Slots.{lent-length, run-length}
 use Rattle.walk.specs.Walk.{ownOf, ready-own, walked-empty, walked-inside, walked-outside, walked-node, walked-alone, walked-numbers, placed-most}
 use Rattle.walk.specs.Descent.{own-point, walkable-left, walkable-right}
 use Rattle.walk.specs.Descent.{Child, child-walkable, child-lives, child-splits, child-walked}
 use borrow.Fn.Kinds.{In}
 use borrow.Fn.PlainCycle.{Measures, is, falls, and}
-use Rattle.walk.proofs.descent.branch.Reads as branch
-use Rattle.walk.proofs.descent.branch.Kinds as branch-kinds
-use Rattle.walk.proofs.descent.+branch+node.Lts-branch as branch-lts
-use Rattle.walk.proofs.descent.node.Reads as node
-use Rattle.walk.proofs.descent.node.Kinds as node-kinds
-use Rattle.walk.proofs.descent.+branch+node.Lts-node as node-lts
+use Rattle.walk.proofs.parts.branch.Reads as branch
+use Rattle.walk.proofs.parts.branch.Kinds as branch-kinds
+use Rattle.walk.proofs.parts.+branch+node.Lts-branch as branch-lts
+use Rattle.walk.proofs.parts.node.Reads as node
+use Rattle.walk.proofs.parts.node.Kinds as node-kinds
+use Rattle.walk.proofs.parts.+branch+node.Lts-node as node-lts
 use Rattle.terms.proofs.axis.next_axis.Reads as next-axis
-use Rattle.walk.proofs.descent.left_run.Reads as left-run
-use Rattle.walk.proofs.descent.right_run.Reads as right-run
+use Rattle.walk.proofs.parts.left_run.Reads as left-run
+use Rattle.walk.proofs.parts.right_run.Reads as right-run
 use Rattle.region.proofs.judge.judge.Reads as judge
 use Rattle.region.proofs.live.inside_live.Reads as inside-live
 use Rattle.walk.proofs.copiers.copy_inside.Reads as copy-inside
 use Rattle.walk.proofs.copiers.copy_outside.Reads as copy-outside
-use Rattle.walk.proofs.descent.place.Reads as place
-use Rattle.walk.proofs.points.coordinate.Reads as coordinate
-use Rattle.walk.proofs.descent.+branch+node.{statement}
-use Rattle.walk.proofs.descent.+branch+node.Tie.{close}
+use Rattle.walk.proofs.parts.place.Reads as place
+use Rattle.descent.proofs.points.point_at.Reads as point-at
+use Rattle.descent.proofs.points.coordinate.Reads as coordinate
+use Rattle.walk.proofs.parts.+branch+node.{statement}
+use Rattle.walk.proofs.parts.+branch+node.Tie.{close}
 
 -- Twice the run's length.
 abbrev μ-node : Measures 6 node-kinds.ps ℕ
@@ -72,6 +74,8 @@ module _ (t : ℕ) where
 
   abbrev node-calls : node-lts.Claims
   node-calls = (
+    point-at.Asked,
+    point-at.Learnt,
     inside-live.Asked,
     inside-live.Learnt,
     place.Asked,
@@ -97,10 +101,13 @@ module _ (t : ℕ) where
   branch-judge-requires : branch-lts.Need-judge-requires branch-calls branch-at branch.Post
   branch-judge-requires c κs =
       let p = c .before .before .before .before .pre .1 in
-      (p .0 .faces, (p .0 .ranges, (p .1, refl)))
+      (p .0 .ranges, (p .0 .faces, (p .1, refl)))
 
   branch-add-e : branch-lts.Need-add-e branch-calls branch-at branch.Post
   branch-add-e c = omega arith
+
+  branch-enum-told : branch-lts.Need-enum-told branch-calls branch-at branch.Post
+  branch-enum-told c = search needs
 
   branch-sub-end : branch-lts.Need-sub-end branch-calls branch-at branch.Post
   branch-sub-end c = omega arith
@@ -122,23 +129,26 @@ module _ (t : ℕ) where
 
   branch-copy-outside-requires : branch-lts.Need-copy-outside-requires branch-calls branch-at branch.Post
   branch-copy-outside-requires c κs =
-      let s = c .before .before .before .before .before .before .before .before .before in
+      let s = c .before .before .before .before .before .before .before .before .before .before in
       let r = s .pre .1 .0 .ready in
       let l = lent-length (s .args .order .now) (s .args .run .start) (s .args .run .length) (r .fits) in
       omega (arith, r .room, r .size)
 
   branch-returns-2 : branch-lts.Need-returns-2 branch-calls branch-at branch.Post
   branch-returns-2 c =
-      let s = c .before .before .before .before .before .before .before .before .before .before .before .before in
+      let s = c .before .before .before .before .before .before .before .before .before .before .before .before .before in
       let a = s .args .run .start in
       let n = s .args .run .length in
       let i = s .args .tally .inside in
       let more : a + n - i ≡ a - i + n = omega (arith, s .pre .1 .3) in
-      let below = c .before .before .before .before .before .before .before .judge .ensures .below-one (c .before .before .before .before .before .before .if2 .taken) in
+      let below = judged-below (rw (c .before .before .before .before .before .before .enum-told .given .1) at (c .before .before .before .before .before .before .before .before .judge .ensures)) in
       rw more (walked-outside (s .pre .1 .0 .ready) below (c .before .before .copy-outside .ensures))
 
   branch-same-length : branch-lts.Need-same-length branch-calls branch-at branch.Post
   branch-same-length c = branch-returns-2 c .filled .size
+
+  branch-enum-told-2 : branch-lts.Need-enum-told-2 branch-calls branch-at branch.Post
+  branch-enum-told-2 c = search needs
 
   branch-mul-copy-inside : branch-lts.Need-mul-copy-inside branch-calls branch-at branch.Post
   branch-mul-copy-inside c = omega arith
@@ -154,7 +164,7 @@ module _ (t : ℕ) where
 
   branch-copy-inside-requires : branch-lts.Need-copy-inside-requires branch-calls branch-at branch.Post
   branch-copy-inside-requires c κs =
-      let s = c .before .before .before .before .before .before .before .before .before .before in
+      let s = c .before .before .before .before .before .before .before .before .before in
       let r = s .pre .1 .0 .ready in
       let l = lent-length (s .args .order .now) (s .args .run .start) (s .args .run .length) (r .fits) in
       omega (arith, r .room, r .size)
@@ -164,28 +174,27 @@ module _ (t : ℕ) where
 
   branch-returns-3 : branch-lts.Need-returns-3 branch-calls branch-at branch.Post
   branch-returns-3 c =
-      let s = c .before .before .before .before .before .before .before .before .before .before .before .before .before .before in
+      let s = c .before .before .before .before .before .before .before .before .before .before .before .before .before in
       let a = s .args .run .start in
       let n = s .args .run .length in
       let i = s .args .tally .inside in
       let same : a + n - (i + n) ≡ a - i = omega arith in
-      let above = judged-above (c .before .before .before .before .before .before .before .before .before .judge .ensures) (c .before .before .before .before .before .before .before .before .if2 .left) (c .before .before .before .before .before .before .if3 .taken) in
-      rw same (walked-inside (s .pre .1 .0 .ready) above (c .before .before .before .copy-inside .ensures))
+      let above = rw (c .before .before .before .before .before .before .enum-told2 .given .1) at (c .before .before .before .before .before .before .before .before .judge .ensures) in
+      rw same (walked-inside (s .pre .1 .0 .ready) (above .all) (c .before .before .before .copy-inside .ensures))
 
   branch-same-length-2 : branch-lts.Need-same-length-2 branch-calls branch-at branch.Post
   branch-same-length-2 c = branch-returns-3 c .filled .size
+
+  branch-enum-known-judged : branch-lts.Need-enum-known-judged branch-calls branch-at branch.Post
+  branch-enum-known-judged c = search needs
 
   branch-node-requires : branch-lts.Need-node-requires branch-calls branch-at branch.Post
   branch-node-requires c κs =
       let s = c .before .before .before .before .before .before .before .before .before .before in
       let w = s .pre .1 .0 in
-      let j = c .before .before .before .before .before .judge in
-      let f = c .before .before .before .before .if2 .left in
-      let z = c .before .before .before .before .before .before .before .if1 .left in
-      let n = c .before .before .if3 .left in
-      let some : 0 < s .args .run .length = omega arith in
-      let left : 0 < j .result .left = omega arith in
-      (omega (arith, s .pre .0), ((w, j .ensures .lives f, s .pre .1 .2, s .pre .1 .3), (some, judged-open (j .ensures) f (ready-own (w .ready) some) left)))
+      let some : 0 < s .args .run .length = omega (arith, c .before .before .before .before .before .before .before .if1 .left) in
+      let j = rw (c .before .before .before .judged .given .1) at (c .before .before .before .before .before .judge .ensures) in
+      (omega (arith, s .pre .0), ((w, j .lives, s .pre .1 .2, s .pre .1 .3), (some, judged-open j (ready-own (w .ready) some))))
 
   branch-same-length-3 : branch-lts.Need-same-length-3 branch-calls branch-at branch.Post
   branch-same-length-3 c = c .before .before .node .ensures .filled .size
@@ -199,7 +208,7 @@ module _ (t : ℕ) where
 
   -- The two branches that the node part goes on to.
   left-is : (c : node-lts.After-left-run node-calls node-at node.Post) →
-      let a = c .before .before .before .before .before .before .before .before .before .before .before .before .args in
+      let a = c .before .before .before .before .before .before .before .before .before .before .before .before .before .args in
       let r = a .run in
       let p = ownOf (a .order .now) (r .start) (r .length) in
       let child = c .left-run .result in
@@ -208,10 +217,10 @@ module _ (t : ℕ) where
       (child .start) (child .length) (child .axis) (child .count) (boxOf (child .rows))
   left-is c =
       let x = c .before .before .coordinate in
-      rw (mod-eq-of-lt (c .before .before .before .before .before .before .before .before .before .before .before .before .pre .1 .0 .2)) (rw (toZ-ofZ {w = w32} (sfits-of (x .ok)), x .ensures, c .before .next-axis .ensures) at (c .left-run .ensures))
+      rw (mod-eq-of-lt (c .before .before .before .before .before .before .before .before .before .before .before .before .before .pre .1 .0 .2)) (rw (toZ-ofZ {w = w32} (sfits-of (x .ok)), x .ensures, c .before .next-axis .ensures) at (c .left-run .ensures))
 
   right-is : (c : node-lts.After-right-run node-calls node-at node.Post) →
-      let a = c .before .before .before .before .before .before .before .before .before .before .before .before .before .args in
+      let a = c .before .before .before .before .before .before .before .before .before .before .before .before .before .before .args in
       let r = a .run in
       let p = ownOf (a .order .now) (r .start) (r .length) in
       let child = c .right-run .result in
@@ -220,7 +229,7 @@ module _ (t : ℕ) where
       (child .start) (child .length) (child .axis) (child .count) (boxOf (child .rows))
   right-is c =
       let x = c .before .before .before .coordinate in
-      rw (mod-eq-of-lt (c .before .before .before .before .before .before .before .before .before .before .before .before .before .pre .1 .0 .2)) (rw (toZ-ofZ {w = w32} (sfits-of (x .ok)), x .ensures, c .before .before .next-axis .ensures) at (c .right-run .ensures))
+      rw (mod-eq-of-lt (c .before .before .before .before .before .before .before .before .before .before .before .before .before .before .pre .1 .0 .2)) (rw (toZ-ofZ {w = w32} (sfits-of (x .ok)), x .ensures, c .before .before .next-axis .ensures) at (c .right-run .ensures))
 
   node-add-middle : node-lts.Need-add-middle node-calls node-at node.Post
   node-add-middle c = omega arith
@@ -231,22 +240,33 @@ module _ (t : ℕ) where
   node-shared-slice-read-p : node-lts.Need-shared-slice-read-p node-calls node-at node.Post
   node-shared-slice-read-p c = omega arith
 
-  node-cast-inside-live : node-lts.Need-cast-inside-live node-calls node-at node.Post
-  node-cast-inside-live c =
+  -- The node's number, as it was read, is small.
+  number-small : (c : node-lts.After-shared-slice-known2 node-calls node-at node.Post) →
+      let a = c .before .before .before .before .before .args in
+      ownOf (a .order .now) (a .run .start) (a .run .length) < 2 ^ 32
+  number-small c =
       let r = c .before .before .before .before .before .args .run in
       omega (arith, c .shared-slice-known2 .given (r .start + r .length / 2))
 
+  node-cast-point-at : node-lts.Need-cast-point-at node-calls node-at node.Post
+  node-cast-point-at c = omega (arith, number-small c)
+
+  node-point-at-requires : node-lts.Need-point-at-requires node-calls node-at node.Post
+  node-point-at-requires c κs =
+      let s = c .before .before .before .before .before in
+      own-point (s .pre .1 .0 .0) (s .pre .1 .1 .0)
+
   node-inside-live-requires : node-lts.Need-inside-live-requires node-calls node-at node.Post
   node-inside-live-requires c κs =
-      let s = c .before .before .before .before .before in
+      let s = c .before .before .before .before .before .before in
       let w = s .pre .1 .0 .0 in
       let lives = s .pre .1 .0 .1 in
       let some = s .pre .1 .1 .0 in
-      (w .faces, (own-point w some, lives .live))
+      (c .point-at .ensures .ranges, (w .faces, lives .live))
 
   node-add-start : node-lts.Need-add-start node-calls node-at node.Post
   node-add-start c =
-      let s = c .before .before .before .before .before .before .before in
+      let s = c .before .before .before .before .before .before .before .before in
       let w = s .pre .1 .0 .0 in
       let some = s .pre .1 .1 .0 in
       let r = w .ready in
@@ -254,14 +274,14 @@ module _ (t : ℕ) where
 
   node-place-requires : node-lts.Need-place-requires node-calls node-at node.Post
   node-place-requires c κs =
-      let s = c .before .before .before .before .before .before .before .before .before .before in
+      let s = c .before .before .before .before .before .before .before .before .before .before .before in
       let r = s .pre .1 .0 .0 .ready in
       let some = s .pre .1 .1 .0 in
       omega (arith, s .pre .1 .0 .3, r .fits, r .size)
 
   node-returns : node-lts.Need-returns node-calls node-at node.Post
   node-returns c =
-      let s = c .before .before .before .before .before .before .before .before .before .before .before .before .before in
+      let s = c .before .before .before .before .before .before .before .before .before .before .before .before .before .before in
       let w = s .pre .1 .0 .0 in
       let some = s .pre .1 .1 .0 in
       let a = s .args .run .start in
@@ -270,26 +290,29 @@ module _ (t : ℕ) where
       let i' = c .before .before .place .result .inside in
       let before : a + n / 2 - i ≡ a - i = omega (arith, c .before .before .before .before .if1 .taken) in
       let after : a + n - i' ≡ a + n / 2 + 1 - i' = omega (arith, c .before .before .before .before .if1 .taken) in
-      let told = c .before .before .before .before .before .before .before .inside-live .ensures .tells (s .pre .1 .0 .1) (ready-own (w .ready) some) in
+      let told = point-told (c .before .before .before .before .before .before .before .before .point-at .ensures) (c .before .before .before .before .before .before .before .inside-live .ensures) .tells (s .pre .1 .0 .1) (ready-own (w .ready) some) in
       let f = rw (told, w .ready .size, before) at (c .before .before .place .ensures) in
       rw after (walked-alone (w .ready) some (c .before .before .before .before .if1 .taken) (s .pre .1 .1 .1) f)
 
   node-same-length : node-lts.Need-same-length node-calls node-at node.Post
   node-same-length c = node-returns c .filled .size
 
+  node-cast-coordinate : node-lts.Need-cast-coordinate node-calls node-at node.Post
+  node-cast-coordinate c = omega (arith, number-small (c .before .before .before .before .before))
+
   node-coordinate-requires : node-lts.Need-coordinate-requires node-calls node-at node.Post
   node-coordinate-requires c κs =
-      let s = c .before .before .before .before .before .before .before .before .before in
+      let s = c .before .before .before .before .before .before .before .before .before .before in
       let w = s .pre .1 .0 .0 in
       let some = s .pre .1 .1 .0 in
       (own-point w some, s .pre .1 .0 .2)
 
   node-next-axis-requires : node-lts.Need-next-axis-requires node-calls node-at node.Post
-  node-next-axis-requires c κs = c .before .before .before .before .before .before .before .before .before .before .pre .1 .0 .2
+  node-next-axis-requires c κs = c .before .before .before .before .before .before .before .before .before .before .before .pre .1 .0 .2
 
   node-left-run-requires : node-lts.Need-left-run-requires node-calls node-at node.Post
   node-left-run-requires c κs =
-      let s = c .before .before .before .before .before .before .before .before .before .before .before in
+      let s = c .before .before .before .before .before .before .before .before .before .before .before .before in
       let w = s .pre .1 .0 .0 in
       let some = s .pre .1 .1 .0 in
       let r = w .ready in
@@ -297,7 +320,7 @@ module _ (t : ℕ) where
 
   node-right-run-requires : node-lts.Need-right-run-requires node-calls node-at node.Post
   node-right-run-requires c κs =
-      let s = c .before .before .before .before .before .before .before .before .before .before .before .before in
+      let s = c .before .before .before .before .before .before .before .before .before .before .before .before .before in
       let w = s .pre .1 .0 .0 in
       let some = s .pre .1 .1 .0 in
       let r = w .ready in
@@ -305,7 +328,7 @@ module _ (t : ℕ) where
 
   node-branch-requires : node-lts.Need-branch-requires node-calls node-at node.Post
   node-branch-requires c κs =
-      let s = c .before .before .before .before .before .before .before .before .before .before .before .before .before .before in
+      let s = c .before .before .before .before .before .before .before .before .before .before .before .before .before .before .before in
       let k = s .args .k in
       let j = s .args .run .axis in
       let w = s .pre .1 .0 .0 in
@@ -324,7 +347,7 @@ module _ (t : ℕ) where
 
   node-place-requires-2 : node-lts.Need-place-requires-2 node-calls node-at node.Post
   node-place-requires-2 c κs =
-      let s = c .before .before .before .before .before .before .before .before .before .before .before .before .before .before .before .before .before .before in
+      let s = c .before .before .before .before .before .before .before .before .before .before .before .before .before .before .before .before .before .before .before in
       let k = s .args .k in
       let j = s .args .run .axis in
       let w = s .pre .1 .0 .0 in
@@ -336,7 +359,7 @@ module _ (t : ℕ) where
 
   node-branch-requires-2 : node-lts.Need-branch-requires-2 node-calls node-at node.Post
   node-branch-requires-2 c κs =
-      let s = c .before .before .before .before .before .before .before .before .before .before .before .before .before .before .before .before .before .before .before .before .before .before in
+      let s = c .before .before .before .before .before .before .before .before .before .before .before .before .before .before .before .before .before .before .before .before .before .before .before in
       let k = s .args .k in
       let j = s .args .run .axis in
       let w = s .pre .1 .0 .0 in
@@ -345,7 +368,7 @@ module _ (t : ℕ) where
       let l = left-is (c .before .before .before .before .before .before .before .before .before .before) in
       let v = rw (l .starts, l .slots) at (child-walked k j l (s .args .order .now) refl (c .before .before .before .before .before .before .before .branch .ensures)) in
       let own = ready-own (w .ready) some in
-      let told = c .before .before .before .before .before .before .before .before .before .before .before .before .before .before .before .before .inside-live .ensures .tells lives own in
+      let told = point-told (c .before .before .before .before .before .before .before .before .before .before .before .before .before .before .before .before .before .point-at .ensures) (c .before .before .before .before .before .before .before .before .before .before .before .before .before .before .before .before .inside-live .ensures) .tells lives own in
       let f = rw (told, v .filled .size, w .ready .size) at (c .before .before .before .place2 .ensures) in
       let half = run-length (s .args .order .now) (s .args .run .start) (s .args .run .length / 2) (omega (arith, w .ready .fits)) in
       let r = right-is (c .before .before .before .before .before .before .before .before .before) in (
@@ -360,7 +383,7 @@ module _ (t : ℕ) where
 
   node-returns-2 : node-lts.Need-returns-2 node-calls node-at node.Post
   node-returns-2 c =
-      let s = c .before .before .before .before .before .before .before .before .before .before .before .before .before .before .before .before .before .before .before .before .before .before .before .before .before in
+      let s = c .before .before .before .before .before .before .before .before .before .before .before .before .before .before .before .before .before .before .before .before .before .before .before .before .before .before in
       let k = s .args .k in
       let j = s .args .run .axis in
       let w = s .pre .1 .0 .0 in
@@ -369,7 +392,7 @@ module _ (t : ℕ) where
       let l = left-is (c .before .before .before .before .before .before .before .before .before .before .before .before .before) in
       let v = rw (l .starts, l .slots) at (child-walked k j l (s .args .order .now) refl (c .before .before .before .before .before .before .before .before .before .before .branch .ensures)) in
       let own = ready-own (w .ready) some in
-      let told = c .before .before .before .before .before .before .before .before .before .before .before .before .before .before .before .before .before .before .before .inside-live .ensures .tells lives own in
+      let told = point-told (c .before .before .before .before .before .before .before .before .before .before .before .before .before .before .before .before .before .before .before .before .point-at .ensures) (c .before .before .before .before .before .before .before .before .before .before .before .before .before .before .before .before .before .before .before .inside-live .ensures) .tells lives own in
       let f = rw (told, v .filled .size, w .ready .size) at (c .before .before .before .before .before .before .place2 .ensures) in
       let r = right-is (c .before .before .before .before .before .before .before .before .before .before .before .before) in
       let a = s .args .run .start in
@@ -387,6 +410,7 @@ pub +branch+node-spec : {M : Type 1} → statement M
     (branch-returns t)
     (branch-judge-requires t)
     (branch-add-e t)
+    (branch-enum-told t)
     (branch-sub-end t)
     (branch-sub-end-2 t)
     (branch-mul-copy-outside t)
@@ -396,6 +420,7 @@ pub +branch+node-spec : {M : Type 1} → statement M
     (branch-copy-outside-requires t)
     (branch-same-length t)
     (branch-returns-2 t)
+    (branch-enum-told-2 t)
     (branch-mul-copy-inside t)
     (branch-sub-copy-inside t)
     (branch-part-copy-inside-start t)
@@ -404,6 +429,7 @@ pub +branch+node-spec : {M : Type 1} → statement M
     (branch-add-settled t)
     (branch-same-length-2 t)
     (branch-returns-3 t)
+    (branch-enum-known-judged t)
     (branch-node-requires t)
     (branch-same-length-3 t)
     (branch-returns-4 t))
@@ -411,12 +437,14 @@ pub +branch+node-spec : {M : Type 1} → statement M
     (node-add-middle t)
     (node-mul-p t)
     (node-shared-slice-read-p t)
-    (node-cast-inside-live t)
+    (node-cast-point-at t)
+    (node-point-at-requires t)
     (node-inside-live-requires t)
     (node-add-start t)
     (node-place-requires t)
     (node-same-length t)
     (node-returns t)
+    (node-cast-coordinate t)
     (node-coordinate-requires t)
     (node-next-axis-requires t)
     (node-left-run-requires t)

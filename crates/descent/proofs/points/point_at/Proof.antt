@@ -6,15 +6,15 @@ use native.Mathlib.Omega.{arith}
 use mir.Facts.{toZ-ofZ}
 use Rattle.whole.specs.Fits.{sfits-mag}
 use Rattle.terms.specs.Points.{coord}
 use Rattle.region.specs.FourDimensions.{FilledTo, filled-none, filled-next, filled-over, filled-all}
-use Rattle.region.proofs.points.point_at.Statement.{statement}
-use Rattle.region.proofs.points.point_at.Tie as tie
+use Rattle.descent.proofs.points.point_at.Statement.{statement}
+use Rattle.descent.proofs.points.point_at.Tie as tie
 
 abbrev Inv-loop : tie.InvT-loop
-Inv-loop points k p start x₀ d₀ x d = FilledTo k (coord k points p) d x
+Inv-loop k points p start x₀ d₀ x d = FilledTo k (coord k points p) d x
 
 abbrev μ-loop : tie.MeasureT-loop
-μ-loop points k p start x₀ d₀ x d = 4 - d
+μ-loop k points p start x₀ d₀ x d = 4 - d
 
 mul-start : tie.Need-mul-start Inv-loop μ-loop
 mul-start c = omega arith
@@ -56,7 +56,7 @@ returns : tie.Need-returns Inv-loop μ-loop
 returns c =
     let s = c .before .before in
     let same = filled-all (c .before .loop .inv) (s .pre .few) (c .loop-test .left) in
-    record { same = same; ranges = record { ranges = λ d l. rw (same d l) (s .pre .ranges .ranges d l) } }
+    record { same = record { same = same }; ranges = record { ranges = λ d l. rw (same d l) (s .pre .ranges .ranges d l) } }
 
 pub point-at-spec : {M : Type 1} → statement M
 point-at-spec =

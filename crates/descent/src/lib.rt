@@ -1,0 +1,2 @@
+// The way down the tree: what every descent reads.
+pub mod points;
