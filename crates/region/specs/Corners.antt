@@ -1,26 +1,19 @@
 -- The corner that the signs of a face's components choose from two rows.
-use mathlib.Core.Path.{_≡_, refl, ap}
+use mathlib.Core.Path.{_≡_, refl}
 use mathlib.Core.Bool.{true, false}
 use mathlib.Core.List.{List}
-use Prim.Native.Nat.{ℕ, _+_, _<_}
+use Prim.Native.Nat.{ℕ, _+_}
 use lib.ListN.{getD}
-use lib.IntN.{ℤ, pos, negsuc, _*ℤ_}
+use lib.IntN.{ℤ, pos, negsuc}
 use lib.Signed.{leZ}
 use Rattle.whole.specs.Parts.{flags}
-use Rattle.whole.specs.IndexedSum.{sumTo, sum-same}
-use Rattle.terms.specs.Points.{lone}
 use Rattle.terms.specs.Region.{bySign}
 use Rattle.theory.specs.Flags.{clash}
 use Rattle.theory.specs.Tested.{Between, Coordinates}
-use Rattle.region.specs.Ranges.{products}
 
 -- In each dimension the first row where the component is 0 or more, else the second.
 abbrev pub corner : (ℕ → ℤ) → (ℕ → ℤ) → List ℤ → ℕ → ℕ → ℤ
 corner first second normals at d = bySign (getD normals (at + d) (pos 0)) (first d) (second d)
-
--- The value holds that corner of the rows.
-pub record Corner (k : ℕ) (first second normals : List ℤ) (at : ℕ) (chosen : List ℤ) : Type 0 where
-  pub same : (d : ℕ) → d < k → lone chosen d ≡ corner (lone first) (lone second) normals at d
 
 -- What the code's test of a component chooses.
 pub first-by-sign : (c a b : ℤ) → leZ (pos 0) c ≡ true → a ≡ bySign c a b
@@ -32,7 +25,7 @@ second-by-sign (pos c) a b e = absurd (omega flags)
 second-by-sign (negsuc c) a b e = refl
 
 -- A corner of rows in range is in range.
-corner-ranges : {k : ℕ} {first second : ℕ → ℤ} → Coordinates k first → Coordinates k second → (normals : List ℤ) (at : ℕ)
+pub corner-ranges : {k : ℕ} {first second : ℕ → ℤ} → Coordinates k first → Coordinates k second → (normals : List ℤ) (at : ℕ)
     → Coordinates k (corner first second normals at)
 corner-ranges p q normals at = record { ranges = λ d l. go (getD normals (at + d) (pos 0)) (p .ranges d l) (q .ranges d l) }
   where
@@ -40,11 +33,3 @@ corner-ranges p q normals at = record { ranges = λ d l. go (getD normals (at + 
         → Between (negsuc 32767) (bySign c a b) (pos 32767)
     go (pos c) r s = r
     go (negsuc c) r s = s
-
-module _ {k : ℕ} {first second normals : List ℤ} {at : ℕ} {chosen : List ℤ} (c : Corner k first second normals at chosen) where
-  pub chosen-ranges : Coordinates k (lone first) → Coordinates k (lone second) → Coordinates k (lone chosen)
-  chosen-ranges p q = record { ranges = λ d l. rw (c .same d l) (corner-ranges p q normals at .ranges d l) }
-
-  -- The products with the value are those with the corner.
-  pub chosen-sum : sumTo k (products normals at (lone chosen)) ≡ sumTo k (products normals at (corner (lone first) (lone second) normals at))
-  chosen-sum = sum-same k _ _ (λ d l. ap (λ (z : ℤ). getD normals (at + d) (pos 0) *ℤ z) (c .same d l))

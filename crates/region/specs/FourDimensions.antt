@@ -7,7 +7,9 @@ use native.Mathlib.Omega.{arith}
 use lib.ListN.{length, getD, set, length-set}
 use lib.IntN.{ℤ, pos, _+ℤ_}
 use Rattle.whole.specs.IndexedSum.{sumTo, sum-next}
+use Rattle.terms.specs.Points.{lone}
 use Rattle.theory.specs.Stores.{store-next}
+use Rattle.theory.specs.PointsAlike.{SamePoint}
 
 -- Those of the first d places that are below k hold the value's.
 pub record FilledTo (k : ℕ) (value : ℕ → ℤ) (d : ℕ) (places : List ℤ) : Type 0 where
@@ -29,8 +31,8 @@ module _ {k : ℕ} {value : ℕ → ℤ} {d : ℕ} {places : List ℤ} (f : Fill
   pub filled-over : d < 4 → k ≤ d → FilledTo k value (d + 1) places
   filled-over l m = record { turns = omega arith; long = f .long; same = λ e n o. f .same e (omega arith) o }
 
-  pub filled-all : k ≤ 4 → 4 ≤ d → (e : ℕ) → e < k → getD places e (pos 0) ≡ value e
-  filled-all m l e n = f .same e (omega arith) n
+  pub filled-all : k ≤ 4 → 4 ≤ d → SamePoint k (lone places) value
+  filled-all m l = record { same = λ e n. f .same e (omega arith) n }
 
 -- The sum of those of the first d terms that are below k.
 pub record SummedTo (k : ℕ) (term : ℕ → ℤ) (d : ℕ) (sum : ℤ) : Type 0 where

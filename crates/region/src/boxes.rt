@@ -11,8 +11,9 @@ ghost use Rattle.terms.specs.Points.{lone};
 ghost use Rattle.terms.specs.Box.{boxOf, leftBox, rightBox};
 ghost use Rattle.terms.specs.Region.{region, bySign, whollyAbove, whollyBelow};
 ghost use Rattle.theory.specs.Tested.{Coordinates};
+ghost use Rattle.theory.specs.PointsAlike.{SamePoint};
 ghost use Rattle.region.specs.Ranges.{BoxRanges, Components, HasFace, products};
-ghost use Rattle.region.specs.Corners.{Corner, corner};
+ghost use Rattle.region.specs.Corners.{corner};
 
 // The coordinate that the sign of a component chooses: the first where it is 0 or more, else the second.
 fn by_sign(component: i32, first: i32, second: i32) -> i32
@@ -24,7 +25,7 @@ fn by_sign(component: i32, first: i32, second: i32) -> i32
 // The corner of a box that a face's signs choose: in each dimension the first row where the component is 0 or more, else the second.
 fn corner_of(k: usize, first: [i32; 4], second: [i32; 4], normals: &[i32], at: usize) -> [i32; 4]
     requires { ⌜ Components k at (now normals) ⌝ }
-    ensures { λ r. ⌜ Corner k first second (now (normals .entry)) at r ⌝ }
+    ensures { λ r. ⌜ SamePoint k (lone r) (corner (lone first) (lone second) (now (normals .entry)) at) ⌝ }
 {
     let mut chosen: [i32; 4] = [0; 4];
     for d in 0..4 {

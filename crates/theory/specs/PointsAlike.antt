@@ -2,10 +2,11 @@
 use mathlib.Core.Path.{_≡_, sym, ap, fun-ext}
 use Prim.Native.Nat.{ℕ, _<_}
 use lib.IntN.{ℤ, _*ℤ_}
-use Rattle.whole.specs.IndexedSum.{sum-same}
+use Rattle.whole.specs.IndexedSum.{sumTo, sum-same}
 use Rattle.terms.specs.Tests.{allTo}
 use Rattle.terms.specs.Box.{Box}
 use Rattle.terms.specs.Region.{Region, aboveAt, above, inside}
+use Rattle.theory.specs.Tested.{Coordinates}
 use Rattle.theory.specs.Boxes.{In}
 
 -- The two points have the same first k coordinates.
@@ -19,10 +20,18 @@ same-point-sym s = record { same = λ d l. sym (s .same d l) }
 pub in-same-point : {k : ℕ} {b : Box} {x y : ℕ → ℤ} → SamePoint k x y → In k b x → In k b y
 in-same-point s w = record { least = λ d l. rw (s .same d l) at (w .least d l); most = λ d l. rw (s .same d l) at (w .most d l) }
 
+-- Both are in range, or neither.
+pub ranges-same-point : {k : ℕ} {x y : ℕ → ℤ} → SamePoint k x y → Coordinates k y → Coordinates k x
+ranges-same-point s w = record { ranges = λ d l. rw (s .same d l) (w .ranges d l) }
+
+-- Their sums of products are the same.
+pub sum-same-point : {k : ℕ} {x y : ℕ → ℤ} → SamePoint k x y → (component : ℕ → ℤ) → sumTo k (λ d. component d *ℤ x d) ≡ sumTo k (λ d. component d *ℤ y d)
+sum-same-point {k} s component = sum-same k _ _ (λ d l. ap (λ (z : ℤ). component d *ℤ z) (s .same d l))
+
 module _ (g : Region) {x y : ℕ → ℤ} (s : SamePoint (g .k) x y) where
   -- They are above the same faces.
   pub above-same-point : (i : ℕ) → above g i x ≡ above g i y
-  above-same-point i = ap (aboveAt g i) (sum-same (g .k) _ _ (λ d l. ap (λ (z : ℤ). g .component i d *ℤ z) (s .same d l)))
+  above-same-point i = ap (aboveAt g i) (sum-same-point s (g .component i))
 
   -- Both are inside, or neither.
   pub inside-same-point : inside g x ≡ inside g y

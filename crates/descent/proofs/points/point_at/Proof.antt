@@ -6,6 +6,7 @@ use native.Mathlib.Omega.{arith}
 use mir.Facts.{toZ-ofZ}
 use Rattle.whole.specs.Fits.{sfits-mag}
 use Rattle.terms.specs.Points.{coord}
+use Rattle.theory.specs.PointsAlike.{ranges-same-point}
 use Rattle.region.specs.FourDimensions.{FilledTo, filled-none, filled-next, filled-over, filled-all}
 use Rattle.descent.proofs.points.point_at.Statement.{statement}
 use Rattle.descent.proofs.points.point_at.Tie as tie
@@ -56,7 +57,7 @@ returns : tie.Need-returns Inv-loop μ-loop
 returns c =
     let s = c .before .before in
     let same = filled-all (c .before .loop .inv) (s .pre .few) (c .loop-test .left) in
-    record { same = record { same = same }; ranges = record { ranges = λ d l. rw (same d l) (s .pre .ranges .ranges d l) } }
+    record { same = same; ranges = ranges-same-point same (s .pre .ranges) }
 
 pub point-at-spec : {M : Type 1} → statement M
 point-at-spec =

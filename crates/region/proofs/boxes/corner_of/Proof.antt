@@ -70,7 +70,7 @@ loop-again c =
     (c .if1 .came)
 
 returns : tie.Need-returns Inv-loop μ-loop
-returns c = record { same = filled-all (c .before .loop .inv) (c .before .before .pre .few) (c .loop-test .left) }
+returns c = filled-all (c .before .loop .inv) (c .before .before .pre .few) (c .loop-test .left)
 
 pub corner-of-spec : {M : Type 1} → statement M
 corner-of-spec =
