@@ -14,7 +14,7 @@ use Rattle.terms.specs.Tree.{eachOnce, shelfRun}
 use Rattle.terms.specs.Region.{region}
 use Rattle.terms.specs.Bound.{S, isSquare}
 use Rattle.terms.specs.ListCall.{listRefusals, listCode, listAnswer, ListedAs}
-use Rattle.theory.specs.FirstRefusal.{FirstHeld, if-code}
+use Rattle.theory.specs.FirstRefusal.{FirstHeld, if-code, if-refused}
 use Rattle.theory.specs.FirstRefusalIsLowest.{Lowest}
 use Rattle.theory.specs.InsideAndOutside.{shelf-lists-length, shelf-places-each}
 use Rattle.theory.specs.FaceLentAlone.{faceAlone}
@@ -44,6 +44,13 @@ module _ (s : Stock) (o : Order) (f : Faces) (list : List ℕ) where
     -- A refusal changes no lent number.
     pub list-refused-writes-nothing : a .code ≢ 0 → x ≡ list
     list-refused-writes-nothing m = e .written ∙ list-refused s o f list (λ z. m (code ∙ z))
+
+    -- Of a refusal every other number is 0.
+    pub list-refused-says-no-more : a .code ≢ 0 → a ≡ record { code = a .code; inside = 0; outside = 0; visits = 0 }
+    unfolding listAnswer
+    list-refused-says-no-more m =
+        let n : listCode s o f list ≢ 0 = λ z. m (code ∙ z) in
+        e .answered ∙ if-refused (listCode s o f list) _ _ n ∙ rw (← code) refl
 
     module _ (done : a .code ≡ 0) where
       passed : listCode s o f list ≡ 0

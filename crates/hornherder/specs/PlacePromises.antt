@@ -1,12 +1,13 @@
 -- The demands, read off the contract of the test of one point. Each follows from `theory` in a line or two.
 use mathlib.Core.Path.{_≡_, refl, sym, ap, _∙_}
+use mathlib.Core.Logic.{_≢_}
 use mathlib.Core.List.{List}
 use Prim.Native.Nat.{ℕ}
 use lib.IntN.{ℤ}
 use Rattle.terms.specs.declared.Placing.{Placing}
 use Rattle.terms.specs.Lent.{Faces}
 use Rattle.terms.specs.PlaceCall.{placeRefusals, placeCode, placeAnswer}
-use Rattle.theory.specs.FirstRefusal.{FirstHeld, if-code}
+use Rattle.theory.specs.FirstRefusal.{FirstHeld, if-code, if-refused}
 use Rattle.theory.specs.FirstRefusalIsLowest.{Lowest}
 use Rattle.theory.specs.PlaceCall.{place-first, place-lowest}
 
@@ -26,3 +27,10 @@ module _ (k : ℕ) (point : List ℤ) (f : Faces) {a : Placing} (e : a ≡ place
 
   pub place-answers-the-lowest : Lowest (placeRefusals k point f) (a .code)
   place-answers-the-lowest = rw place-number (place-lowest k point f)
+
+  -- Of a refusal the other number is 0.
+  pub place-refused-says-no-more : a .code ≢ 0 → a ≡ record { code = a .code; inside = 0 }
+  unfolding placeAnswer
+  place-refused-says-no-more m =
+      let n : placeCode k point f ≢ 0 = λ z. m (place-number ∙ z) in
+      e ∙ if-refused (placeCode k point f) _ _ n ∙ rw (← place-number) refl
