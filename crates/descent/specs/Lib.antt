@@ -1,1 +1,9 @@
 pub mod Points
+pub mod Slots
+pub mod SlotBoxes
+pub mod Standing
+pub mod Boxed
+pub mod Faced
+pub mod Runs
+pub mod RootBox
+pub mod Root

@@ -1,2 +1,5 @@
-// The way down the tree: what every descent reads.
+// The way down the tree, which every engine that goes down takes: a branch as a value and its two branches, the reading of a node's point, and the
+// root box.
 pub mod points;
+pub mod root;
+pub mod runs;

@@ -2,7 +2,7 @@
 use mathlib.Core.Path.{_≡_, refl, sym, _∙_}
 use mathlib.Core.Logic.{_≢_}
 use mathlib.Core.List.{List, _++_}
-use Prim.Native.Nat.{ℕ, _≤_}
+use Prim.Native.Nat.{ℕ, _-_, _≤_}
 use native.Mathlib.Omega.{arith}
 use lib.ListN.{length, drop}
 use lib.IntN.{ℤ}
@@ -15,7 +15,7 @@ use Rattle.theory.specs.BoxFuel.{visits-le-slots}
 use Rattle.theory.specs.InsideAndOutside.{lists-length}
 use Rattle.theory.specs.FirstRefusal.{if-refused}
 use Rattle.theory.specs.ListCall.{ListPassed, list-passed}
-use Rattle.walk.specs.Shelf.{Listed}
+use Rattle.walk.specs.Shelf.{ShelfWalked}
 use Rattle.hornherder.specs.First.{First}
 
 pub record AtMost (n i o u : ℕ) : Type 0 where
@@ -23,12 +23,12 @@ pub record AtMost (n i o u : ℕ) : Type 0 where
   pub outside : o ≤ n
   pub visited : u ≤ n
 
-pub counts-at-most : {g : Region} {at : ℕ → ℕ → ℤ} {run after : List ℕ} {i o u : ℕ} → Listed g at run after i o u → AtMost (length run) i o u
+pub counts-at-most : {g : Region} {at : ℕ → ℕ → ℤ} {run after : List ℕ} {i u : ℕ} → ShelfWalked g at run after i u → AtMost (length run) i (length run - i) u
 counts-at-most {g} {at} {run} w =
     let both = lists-length g at run in
     record {
-      inside = omega (arith, w .inside);
-      outside = omega (arith, w .outside);
+      inside = omega (arith, w .listed .inside);
+      outside = omega arith;
       visited = omega (arith, w .visited, visits-le-slots g at run);
     }
 
@@ -45,10 +45,10 @@ module _ (s : Stock) (o : Order) (f : Faces) (list : List ℕ) {c : ℕ} (first 
   unfolding listAnswer listAfter
   list-refused m = record { answered = rw (← list-coded) (sym (if-refused c _ _ m)); written = rw (← list-coded) (sym (if-refused c _ _ m)) }
 
-  pub list-done : c ≡ 0 → (after : List ℕ) (i j u : ℕ) → Listed (region (s .k) f) (pointOf s) (shelfRun s o) after i j u
-      → ListedAs s o f list (record { code = 0; inside = i; outside = j; visits = u }) (after ++ drop (slotsOf s) list)
+  pub list-done : c ≡ 0 → length (shelfRun s o) ≡ slotsOf s → (after : List ℕ) (i u : ℕ) → ShelfWalked (region (s .k) f) (pointOf s) (shelfRun s o) after i u
+      → ListedAs s o f list (record { code = 0; inside = i; outside = slotsOf s - i; visits = u }) (after ++ drop (slotsOf s) list)
   unfolding listAnswer listAfter
-  list-done z after i j u w = record {
-    answered = rw (← list-coded, z, w .inside, w .outside, w .visited) refl;
-    written = rw (← list-coded, z, w .list) refl;
+  list-done z slots after i u w = record {
+    answered = rw (← list-coded, z, rw slots at (w .listed .outside), w .listed .inside, w .visited) refl;
+    written = rw (← list-coded, z, w .listed .list) refl;
   }

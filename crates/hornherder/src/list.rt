@@ -4,6 +4,7 @@ use crate::refuse::face_refusal;
 use crate::refuse::room_refusal;
 use crate::refuse::stock_refusal;
 use crate::refuse::tree_refusal;
+use descent::root::root_box;
 use terms::Listing;
 use walk::walk;
 ghost use Rattle.terms.specs.Lent.{stock, orderOf, faces};
@@ -35,7 +36,16 @@ pub extern "C" fn hornherder_list(
             visits: 0,
         };
     }
-    let tally = walk(k, n, points, &order[0..n], normals, offsets, &mut list[..n]);
+    let rows = root_box(k, n, points);
+    let tally = walk(
+        k,
+        points,
+        &order[0..n],
+        normals,
+        offsets,
+        rows,
+        &mut list[..n],
+    );
     Listing {
         code: 0,
         inside: tally.inside as u32,

@@ -1,6 +1,3 @@
-pub mod Fill
-pub mod Slots
-pub mod Walk
-pub mod Root
-pub mod Descent
+pub mod Walked
+pub mod Parts
 pub mod Shelf

@@ -7,6 +7,7 @@ use lib.Seq.{length-take-le}
 use borrow.Author.Needs.{needs}
 use Rattle.terms.specs.Lent.{stock, orderOf, faces}
 use Rattle.theory.specs.ListCall.{ListPassed}
+use Rattle.descent.specs.Root.{shelf-rooted}
 use Rattle.hornherder.specs.ListOutcome.{AtMost, counts-at-most, list-tested, list-refused, list-done}
 use Rattle.hornherder.proofs.list.hornherder_list.Statement.{statement}
 use Rattle.hornherder.proofs.list.hornherder_list.Tie as tie
@@ -24,10 +25,10 @@ slots : (c : tie.Else1) → let a = c .before .before .before .before .before .a
 slots c = length-take-le _ _ (passed c .room)
 
 -- No count is over n, which fits.
-few : (c : tie.After-walk) → let a = c .before .before .before .before .before .before .before .before .args in let t = c .walk .result in
+few : (c : tie.After-walk) → let a = c .before .before .before .before .before .before .before .before .before .args in let t = c .walk .result in
     AtMost (a .n) (t .inside) (a .n - t .inside) (t .visits) × (a .n ≤ 65535)
 few c =
-    let e = c .before .before .before in
+    let e = c .before .before .before .before in
     (rw (slots e) at (counts-at-most (rw (whole e) at (c .walk .ensures))), passed e .tested .many)
 
 list-refusal-requires : tie.Need-list-refusal-requires
@@ -39,6 +40,9 @@ same-length c = search needs
 returns : tie.Need-returns
 returns c = list-refused _ _ _ _ (c .before .list-refusal .ensures) (c .if1 .taken)
 
+root-box-requires : tie.Need-root-box-requires
+root-box-requires c κs = passed c .tested
+
 sub-walk : tie.Need-sub-walk
 sub-walk c = search needs
 
@@ -46,36 +50,36 @@ part-walk-start : tie.Need-part-walk-start
 part-walk-start c = search needs
 
 part-walk-end : tie.Need-part-walk-end
-part-walk-end c = passed c .room
+part-walk-end c = passed (c .before) .room
 
 slice-relend-prefix-walk : tie.Need-slice-relend-prefix-walk
-slice-relend-prefix-walk c = passed (c .before) .list-room
+slice-relend-prefix-walk c = passed (c .before .before) .list-room
 
 slice-aggregate-walk : tie.Need-slice-aggregate-walk
-slice-aggregate-walk c = sym (length-take-le _ _ (passed (c .before .before) .list-room))
+slice-aggregate-walk c = sym (length-take-le _ _ (passed (c .before .before .before) .list-room))
 
 walk-requires : tie.Need-walk-requires
 walk-requires c κs =
-    let e = c .before .before in
+    let e = c .before .before .before in
     let p = passed e in (
-      p .tested,
+      rw (whole e) (shelf-rooted (p .tested) (p .shelf) (c .before .before .root-box .ensures)),
       (
-        rw (p .faced .offsets-size) (p .faced),
-        (rw (whole e) (length-take-le _ _ (p .list-room) ∙ sym (length-take-le _ _ (p .room))), rw (whole e) (p .shelf)),
+        rw (p .faced .offsets-size) (record { few = p .tested .few; tested = p .faced }),
+        rw (whole e) (length-take-le _ _ (p .list-room) ∙ sym (length-take-le _ _ (p .room))),
       ),
     )
 
-cast-t20 : tie.Need-cast-t20
-cast-t20 c = let w = few (c .before .before .before) in omega (arith, w .0 .inside, w .1)
-
-sub-t15 : tie.Need-sub-t15
-sub-t15 c = let w = few (c .before .before .before .before) in omega (arith, w .0 .inside)
-
 cast-t21 : tie.Need-cast-t21
-cast-t21 c = let w = few (c .before .before .before .before) in omega (arith, w .0 .outside, w .1)
+cast-t21 c = let w = few (c .before .before .before) in omega (arith, w .0 .inside, w .1)
+
+sub-t16 : tie.Need-sub-t16
+sub-t16 c = let w = few (c .before .before .before .before) in omega (arith, w .0 .inside)
 
 cast-t22 : tie.Need-cast-t22
-cast-t22 c = let w = few (c .before .before .before .before .before) in omega (arith, w .0 .visited, w .1)
+cast-t22 c = let w = few (c .before .before .before .before) in omega (arith, w .0 .outside, w .1)
+
+cast-t23 : tie.Need-cast-t23
+cast-t23 c = let w = few (c .before .before .before .before .before) in omega (arith, w .0 .visited, w .1)
 
 same-length-2 : tie.Need-same-length-2
 same-length-2 c = search needs
@@ -83,8 +87,8 @@ same-length-2 c = search needs
 returns-2 : tie.Need-returns-2
 returns-2 c =
     let w = c .before .before .before .before .before in
-    let e = w .before .before .before in
-    list-done _ _ _ _ (e .before .list-refusal .ensures) (e .if1 .left) _ _ _ _ (rw (whole e, passed e .faced .offsets-size, slots e) at (w .walk .ensures))
+    let e = w .before .before .before .before in
+    list-done _ _ _ _ (e .before .list-refusal .ensures) (e .if1 .left) (slots e) _ _ _ (rw (whole e, passed e .faced .offsets-size) at (w .walk .ensures))
 
 pub hornherder-list-spec : {M : Type 1} → statement M
 hornherder-list-spec =
@@ -93,15 +97,16 @@ hornherder-list-spec =
     list-refusal-requires
     same-length
     returns
+    root-box-requires
     sub-walk
     part-walk-start
     part-walk-end
     slice-relend-prefix-walk
     slice-aggregate-walk
     walk-requires
-    cast-t20
-    sub-t15
     cast-t21
+    sub-t16
     cast-t22
+    cast-t23
     same-length-2
     returns-2)

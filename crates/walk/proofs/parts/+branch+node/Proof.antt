@@ -1,23 +1,22 @@
 -- The node part and the branch part, which call each other: the measure is twice the run's length, and one more for the branch part.
--- A branch that is judged settled goes to a copier; an open one to its node, whose two branches' boxes and live faces nest in its own.
+-- A branch that is judged settled goes to a copier; an open one to its node, which goes on to both of its branches as to branches that can be walked.
 use mathlib.Core.Path.{_≡_, refl}
 use Prim.Native.Nat.{ℕ, _<_, _+_, _-_, _/_, _^_}
-use native.Mathlib.Nat.{mod-eq-of-lt}
 use native.Mathlib.Omega.{arith}
 use borrow.Author.Needs.{needs, sfits-of}
 use mir.Syntax.{w32}
 use mir.Facts.{toZ-ofZ}
+use Rattle.terms.specs.Lent.{facesOf}
 use Rattle.terms.specs.Points.{coord}
 use Rattle.terms.specs.Run.{axis}
 use Rattle.terms.specs.Box.{boxOf, leftBox, rightBox}
-use Rattle.theory.specs.BoxLaws.{left-nested, right-nested}
-use Rattle.region.specs.Live.{lives-nested}
+use Rattle.terms.specs.Region.{region, inside}
 use Rattle.region.specs.Judged.{judged-below, judged-open}
 use Rattle.descent.specs.Points.{point-told}
-use Rattle.walk.specs.Slots.{lent-length, run-length}
-use Rattle.walk.specs.Walk.{ownOf, ready-own, walked-empty, walked-inside, walked-outside, walked-node, walked-alone, walked-numbers, placed-most}
-use Rattle.walk.specs.Descent.{own-point, walkable-left, walkable-right}
-use Rattle.walk.specs.Descent.{Child, child-walkable, child-lives, child-splits, child-walked}
+use Rattle.descent.specs.Slots.{ownOf, lent-length}
+use Rattle.descent.specs.Standing.{own-point}
+use Rattle.descent.specs.Runs.{Child}
+use Rattle.walk.specs.Parts.{own-held, walkable-faced, own-fits, walked-empty, walked-inside, walked-outside, walked-alone, walkable-left, walkable-right, walked-both}
 use borrow.Fn.Kinds.{In}
 use borrow.Fn.PlainCycle.{Measures, is, falls, and}
 use Rattle.walk.proofs.parts.branch.Reads as branch
@@ -27,15 +26,15 @@ use Rattle.walk.proofs.parts.node.Reads as node
 use Rattle.walk.proofs.parts.node.Kinds as node-kinds
 use Rattle.walk.proofs.parts.+branch+node.Lts-node as node-lts
 use Rattle.terms.proofs.axis.next_axis.Reads as next-axis
-use Rattle.walk.proofs.parts.left_run.Reads as left-run
-use Rattle.walk.proofs.parts.right_run.Reads as right-run
+use Rattle.descent.proofs.points.coordinate.Reads as coordinate
+use Rattle.descent.proofs.points.point_at.Reads as point-at
+use Rattle.descent.proofs.runs.left_run.Reads as left-run
+use Rattle.descent.proofs.runs.right_run.Reads as right-run
 use Rattle.region.proofs.judge.judge.Reads as judge
 use Rattle.region.proofs.live.inside_live.Reads as inside-live
-use Rattle.walk.proofs.copiers.copy_inside.Reads as copy-inside
-use Rattle.walk.proofs.copiers.copy_outside.Reads as copy-outside
-use Rattle.walk.proofs.parts.place.Reads as place
-use Rattle.descent.proofs.points.point_at.Reads as point-at
-use Rattle.descent.proofs.points.coordinate.Reads as coordinate
+use Rattle.list_buffer.proofs.copiers.copy_inside.Reads as copy-inside
+use Rattle.list_buffer.proofs.copiers.copy_outside.Reads as copy-outside
+use Rattle.list_buffer.proofs.placing.place.Reads as place
 use Rattle.walk.proofs.parts.+branch+node.{statement}
 use Rattle.walk.proofs.parts.+branch+node.Tie.{close}
 
@@ -95,25 +94,19 @@ module _ (t : ℕ) where
   branch-returns : branch-lts.Need-returns branch-calls branch-at branch.Post
   branch-returns c =
       let a = c .before .before .before .args in
-      let none : a .run .start + 0 - a .tally .inside ≡ a .run .start - a .tally .inside = omega arith in
-      rw (c .if1 .taken, none) (walked-empty _ _ _ _ _ _ _ _ _)
+      walked-empty (a .k) (a .points .now) (a .order .now) (facesOf (a .normals .now) (a .offsets .now)) (a .run .start) (a .run .length) _ _ _ _ _ (c .if1 .taken)
 
   branch-judge-requires : branch-lts.Need-judge-requires branch-calls branch-at branch.Post
   branch-judge-requires c κs =
-      let p = c .before .before .before .before .pre .1 in
-      (p .0 .ranges, (p .0 .faces, (p .1, refl)))
+      let w = c .before .before .before .before .pre .1 in
+      let z = c .before .if1 .left in
+      (w .boxed .ranges (omega arith), (w .faced .faces, (w .faced .lives, refl)))
 
   branch-add-e : branch-lts.Need-add-e branch-calls branch-at branch.Post
-  branch-add-e c = omega arith
+  branch-add-e c = let w = c .before .before .before .before .before .pre .1 .standing in omega arith
 
   branch-enum-told : branch-lts.Need-enum-told branch-calls branch-at branch.Post
   branch-enum-told c = search needs
-
-  branch-sub-end : branch-lts.Need-sub-end branch-calls branch-at branch.Post
-  branch-sub-end c = omega arith
-
-  branch-sub-end-2 : branch-lts.Need-sub-end-2 branch-calls branch-at branch.Post
-  branch-sub-end-2 c = omega arith
 
   branch-mul-copy-outside : branch-lts.Need-mul-copy-outside branch-calls branch-at branch.Post
   branch-mul-copy-outside c = omega arith
@@ -125,27 +118,22 @@ module _ (t : ℕ) where
   branch-part-copy-outside-start c = omega arith
 
   branch-part-copy-outside-end : branch-lts.Need-part-copy-outside-end branch-calls branch-at branch.Post
-  branch-part-copy-outside-end c = omega arith
+  branch-part-copy-outside-end c = let w = c .before .before .before .before .before .before .before .pre .1 .standing in omega arith
 
   branch-copy-outside-requires : branch-lts.Need-copy-outside-requires branch-calls branch-at branch.Post
   branch-copy-outside-requires c κs =
-      let s = c .before .before .before .before .before .before .before .before .before .before in
-      let r = s .pre .1 .0 .ready in
-      let l = lent-length (s .args .order .now) (s .args .run .start) (s .args .run .length) (r .fits) in
-      omega (arith, r .room, r .size)
+      let s = c .before .before .before .before .before .before .before .before .before in
+      let w = s .pre .1 in
+      let l = lent-length (s .args .order .now) (s .args .run .start) (s .args .run .length) (w .standing .fits) in
+      (w .tallied .few, omega (arith, w .standing .fits, w .tallied .size))
 
   branch-returns-2 : branch-lts.Need-returns-2 branch-calls branch-at branch.Post
   branch-returns-2 c =
-      let s = c .before .before .before .before .before .before .before .before .before .before .before .before .before in
-      let a = s .args .run .start in
-      let n = s .args .run .length in
-      let i = s .args .tally .inside in
-      let more : a + n - i ≡ a - i + n = omega (arith, s .pre .1 .3) in
-      let below = judged-below (rw (c .before .before .before .before .before .before .enum-told .given .1) at (c .before .before .before .before .before .before .before .before .judge .ensures)) in
-      rw more (walked-outside (s .pre .1 .0 .ready) below (c .before .before .copy-outside .ensures))
+      let below = rw (c .before .before .before .before .before .enum-told .given .1) at (c .before .before .before .before .before .before .before .judge .ensures) in
+      walked-outside (c .before .before .before .before .before .before .before .before .before .before .before .before .pre .1) (judged-below below) (c .before .before .copy-outside .ensures)
 
   branch-same-length : branch-lts.Need-same-length branch-calls branch-at branch.Post
-  branch-same-length c = branch-returns-2 c .filled .size
+  branch-same-length c = branch-returns-2 c .listed .filled .size
 
   branch-enum-told-2 : branch-lts.Need-enum-told-2 branch-calls branch-at branch.Post
   branch-enum-told-2 c = search needs
@@ -160,30 +148,25 @@ module _ (t : ℕ) where
   branch-part-copy-inside-start c = omega arith
 
   branch-part-copy-inside-end : branch-lts.Need-part-copy-inside-end branch-calls branch-at branch.Post
-  branch-part-copy-inside-end c = omega arith
+  branch-part-copy-inside-end c = let w = c .before .before .before .before .before .before .before .pre .1 .standing in omega arith
 
   branch-copy-inside-requires : branch-lts.Need-copy-inside-requires branch-calls branch-at branch.Post
   branch-copy-inside-requires c κs =
       let s = c .before .before .before .before .before .before .before .before .before in
-      let r = s .pre .1 .0 .ready in
-      let l = lent-length (s .args .order .now) (s .args .run .start) (s .args .run .length) (r .fits) in
-      omega (arith, r .room, r .size)
+      let w = s .pre .1 in
+      let l = lent-length (s .args .order .now) (s .args .run .start) (s .args .run .length) (w .standing .fits) in
+      omega (arith, w .standing .fits, w .tallied .few, w .tallied .size)
 
   branch-add-settled : branch-lts.Need-add-settled branch-calls branch-at branch.Post
-  branch-add-settled c = omega arith
+  branch-add-settled c = let w = c .before .before .before .before .before .before .before .before .before .before .before .before .before .pre .1 in omega (arith, w .standing .fits, w .tallied .few)
 
   branch-returns-3 : branch-lts.Need-returns-3 branch-calls branch-at branch.Post
   branch-returns-3 c =
-      let s = c .before .before .before .before .before .before .before .before .before .before .before .before .before in
-      let a = s .args .run .start in
-      let n = s .args .run .length in
-      let i = s .args .tally .inside in
-      let same : a + n - (i + n) ≡ a - i = omega arith in
       let above = rw (c .before .before .before .before .before .before .enum-told2 .given .1) at (c .before .before .before .before .before .before .before .before .judge .ensures) in
-      rw same (walked-inside (s .pre .1 .0 .ready) (above .all) (c .before .before .before .copy-inside .ensures))
+      walked-inside (c .before .before .before .before .before .before .before .before .before .before .before .before .before .pre .1) (above .all) (c .before .before .before .copy-inside .ensures)
 
   branch-same-length-2 : branch-lts.Need-same-length-2 branch-calls branch-at branch.Post
-  branch-same-length-2 c = branch-returns-3 c .filled .size
+  branch-same-length-2 c = branch-returns-3 c .listed .filled .size
 
   branch-enum-known-judged : branch-lts.Need-enum-known-judged branch-calls branch-at branch.Post
   branch-enum-known-judged c = search needs
@@ -191,20 +174,16 @@ module _ (t : ℕ) where
   branch-node-requires : branch-lts.Need-node-requires branch-calls branch-at branch.Post
   branch-node-requires c κs =
       let s = c .before .before .before .before .before .before .before .before .before .before in
-      let w = s .pre .1 .0 in
+      let w = s .pre .1 in
       let some : 0 < s .args .run .length = omega (arith, c .before .before .before .before .before .before .before .if1 .left) in
       let j = rw (c .before .before .before .judged .given .1) at (c .before .before .before .before .before .judge .ensures) in
-      (omega (arith, s .pre .0), ((w, j .lives, s .pre .1 .2, s .pre .1 .3), (some, judged-open j (ready-own (w .ready) some))))
+      (omega (arith, s .pre .0), (walkable-faced w (j .lives), (some, judged-open j (own-held w some))))
 
   branch-same-length-3 : branch-lts.Need-same-length-3 branch-calls branch-at branch.Post
-  branch-same-length-3 c = c .before .before .node .ensures .filled .size
+  branch-same-length-3 c = c .before .before .node .ensures .listed .filled .size
 
   branch-returns-4 : branch-lts.Need-returns-4 branch-calls branch-at branch.Post
   branch-returns-4 c = c .before .before .node .ensures
-
-  -- The dimension on which the node splits is one of four.
-  splits-small : (c : node-lts.Start node-calls node-at node.Post) → c .args .run .axis < 4
-  splits-small c = omega (arith, c .pre .1 .0 .2, own-point (c .pre .1 .0 .0) (c .pre .1 .1 .0) .few)
 
   -- The two branches that the node part goes on to.
   left-is : (c : node-lts.After-left-run node-calls node-at node.Post) →
@@ -212,33 +191,32 @@ module _ (t : ℕ) where
       let r = a .run in
       let p = ownOf (a .order .now) (r .start) (r .length) in
       let child = c .left-run .result in
-      Child (r .start) (r .length / 2) (axis (a .k) (r .axis + 1)) (r .count)
-      (leftBox (boxOf (r .rows)) (axis (a .k) (r .axis)) (coord (a .k) (a .points .now) p (axis (a .k) (r .axis))))
-      (child .start) (child .length) (child .axis) (child .count) (boxOf (child .rows))
+      Child (r .start) (r .length / 2) (axis (a .k) (r .axis + 1)) (leftBox (boxOf (r .rows)) (r .axis) (coord (a .k) (a .points .now) p (r .axis)))
+      (child .start) (child .length) (child .axis) (boxOf (child .rows))
   left-is c =
       let x = c .before .before .coordinate in
-      rw (mod-eq-of-lt (c .before .before .before .before .before .before .before .before .before .before .before .before .before .pre .1 .0 .2)) (rw (toZ-ofZ {w = w32} (sfits-of (x .ok)), x .ensures, c .before .next-axis .ensures) at (c .left-run .ensures))
+      rw (toZ-ofZ {w = w32} (sfits-of (x .ok)), x .ensures, c .before .next-axis .ensures) at (c .left-run .ensures)
 
   right-is : (c : node-lts.After-right-run node-calls node-at node.Post) →
       let a = c .before .before .before .before .before .before .before .before .before .before .before .before .before .before .args in
       let r = a .run in
       let p = ownOf (a .order .now) (r .start) (r .length) in
       let child = c .right-run .result in
-      Child (r .start + r .length / 2 + 1) (r .length - r .length / 2 - 1) (axis (a .k) (r .axis + 1)) (r .count)
-      (rightBox (boxOf (r .rows)) (axis (a .k) (r .axis)) (coord (a .k) (a .points .now) p (axis (a .k) (r .axis))))
-      (child .start) (child .length) (child .axis) (child .count) (boxOf (child .rows))
+      Child (r .start + r .length / 2 + 1) (r .length - r .length / 2 - 1) (axis (a .k) (r .axis + 1))
+      (rightBox (boxOf (r .rows)) (r .axis) (coord (a .k) (a .points .now) p (r .axis)))
+      (child .start) (child .length) (child .axis) (boxOf (child .rows))
   right-is c =
       let x = c .before .before .before .coordinate in
-      rw (mod-eq-of-lt (c .before .before .before .before .before .before .before .before .before .before .before .before .before .before .pre .1 .0 .2)) (rw (toZ-ofZ {w = w32} (sfits-of (x .ok)), x .ensures, c .before .before .next-axis .ensures) at (c .right-run .ensures))
+      rw (toZ-ofZ {w = w32} (sfits-of (x .ok)), x .ensures, c .before .before .next-axis .ensures) at (c .right-run .ensures)
 
-  node-add-middle : node-lts.Need-add-middle node-calls node-at node.Post
-  node-add-middle c = omega arith
-
-  node-mul-p : node-lts.Need-mul-p node-calls node-at node.Post
-  node-mul-p c = omega arith
-
-  node-shared-slice-read-p : node-lts.Need-shared-slice-read-p node-calls node-at node.Post
-  node-shared-slice-read-p c = omega arith
+  -- The node's own test tells whether its number is inside.
+  told : (c : node-lts.After-inside-live node-calls node-at node.Post) →
+      let a = c .before .before .before .before .before .before .before .args in
+      let p = ownOf (a .order .now) (a .run .start) (a .run .length) in
+      c .inside-live .result ≡ inside (region (a .k) (facesOf (a .normals .now) (a .offsets .now))) (coord (a .k) (a .points .now) p)
+  told c =
+      let s = c .before .before .before .before .before .before .before .pre .1 in
+      point-told (c .before .point-at .ensures) (c .inside-live .ensures) .tells (s .0 .faced .lives) (own-held (s .0) (s .1 .0))
 
   -- The node's number, as it was read, is small.
   number-small : (c : node-lts.After-shared-slice-known2 node-calls node-at node.Post) →
@@ -248,161 +226,107 @@ module _ (t : ℕ) where
       let r = c .before .before .before .before .before .args .run in
       omega (arith, c .shared-slice-known2 .given (r .start + r .length / 2))
 
+  node-add-middle : node-lts.Need-add-middle node-calls node-at node.Post
+  node-add-middle c = let w = c .before .before .before .before .pre .1 .0 .standing in omega arith
+
+  node-mul-p : node-lts.Need-mul-p node-calls node-at node.Post
+  node-mul-p c = omega arith
+
+  node-shared-slice-read-p : node-lts.Need-shared-slice-read-p node-calls node-at node.Post
+  node-shared-slice-read-p c =
+      let s = c .before .before .before .before .before .pre .1 in
+      let w = s .0 .standing in
+      let some = s .1 .0 in
+      omega arith
+
   node-cast-point-at : node-lts.Need-cast-point-at node-calls node-at node.Post
   node-cast-point-at c = omega (arith, number-small c)
 
   node-point-at-requires : node-lts.Need-point-at-requires node-calls node-at node.Post
-  node-point-at-requires c κs =
-      let s = c .before .before .before .before .before in
-      own-point (s .pre .1 .0 .0) (s .pre .1 .1 .0)
+  node-point-at-requires c κs = let s = c .before .before .before .before .before .pre .1 in own-point (s .0 .standing) (s .1 .0)
 
   node-inside-live-requires : node-lts.Need-inside-live-requires node-calls node-at node.Post
   node-inside-live-requires c κs =
-      let s = c .before .before .before .before .before .before in
-      let w = s .pre .1 .0 .0 in
-      let lives = s .pre .1 .0 .1 in
-      let some = s .pre .1 .1 .0 in
-      (c .point-at .ensures .ranges, (w .faces, lives .live))
+      let w = c .before .before .before .before .before .before .pre .1 .0 in
+      (c .point-at .ensures .ranges, (w .faced .faces, w .faced .lives .live))
 
   node-add-start : node-lts.Need-add-start node-calls node-at node.Post
   node-add-start c =
-      let s = c .before .before .before .before .before .before .before .before in
-      let w = s .pre .1 .0 .0 in
-      let some = s .pre .1 .1 .0 in
-      let r = w .ready in
+      let s = c .before .before .before .before .before .before .before .before .pre .1 in
+      let w = s .0 .tallied in
+      let some = s .1 .0 in
       omega arith
 
   node-place-requires : node-lts.Need-place-requires node-calls node-at node.Post
   node-place-requires c κs =
-      let s = c .before .before .before .before .before .before .before .before .before .before .before in
-      let r = s .pre .1 .0 .0 .ready in
-      let some = s .pre .1 .1 .0 in
-      omega (arith, s .pre .1 .0 .3, r .fits, r .size)
+      let s = c .before .before .before .before .before .before .before .before .before .before .before .pre .1 in
+      let w = s .0 in
+      let some = s .1 .0 in
+      omega (arith, w .tallied .few, w .tallied .size, w .standing .fits)
 
   node-returns : node-lts.Need-returns node-calls node-at node.Post
   node-returns c =
-      let s = c .before .before .before .before .before .before .before .before .before .before .before .before .before .before in
-      let w = s .pre .1 .0 .0 in
-      let some = s .pre .1 .1 .0 in
-      let a = s .args .run .start in
-      let n = s .args .run .length in
-      let i = s .args .tally .inside in
-      let i' = c .before .before .place .result .inside in
-      let before : a + n / 2 - i ≡ a - i = omega (arith, c .before .before .before .before .if1 .taken) in
-      let after : a + n - i' ≡ a + n / 2 + 1 - i' = omega (arith, c .before .before .before .before .if1 .taken) in
-      let told = point-told (c .before .before .before .before .before .before .before .before .point-at .ensures) (c .before .before .before .before .before .before .before .inside-live .ensures) .tells (s .pre .1 .0 .1) (ready-own (w .ready) some) in
-      let f = rw (told, w .ready .size, before) at (c .before .before .place .ensures) in
-      rw after (walked-alone (w .ready) some (c .before .before .before .before .if1 .taken) (s .pre .1 .1 .1) f)
+      let s = c .before .before .before .before .before .before .before .before .before .before .before .before .before .before .pre .1 in
+      walked-alone (s .0) (s .1 .0) (c .before .before .before .before .if1 .taken) (s .1 .1) (rw (told (c .before .before .before .before .before .before .before)) at (c .before .before .place .ensures))
 
   node-same-length : node-lts.Need-same-length node-calls node-at node.Post
-  node-same-length c = node-returns c .filled .size
+  node-same-length c = node-returns c .listed .filled .size
 
   node-cast-coordinate : node-lts.Need-cast-coordinate node-calls node-at node.Post
   node-cast-coordinate c = omega (arith, number-small (c .before .before .before .before .before))
 
   node-coordinate-requires : node-lts.Need-coordinate-requires node-calls node-at node.Post
   node-coordinate-requires c κs =
-      let s = c .before .before .before .before .before .before .before .before .before .before in
-      let w = s .pre .1 .0 .0 in
-      let some = s .pre .1 .1 .0 in
-      (own-point w some, s .pre .1 .0 .2)
+      let s = c .before .before .before .before .before .before .before .before .before .before .pre .1 in
+      (own-point (s .0 .standing) (s .1 .0), s .0 .standing .splits)
 
   node-next-axis-requires : node-lts.Need-next-axis-requires node-calls node-at node.Post
-  node-next-axis-requires c κs = c .before .before .before .before .before .before .before .before .before .before .before .pre .1 .0 .2
+  node-next-axis-requires c κs = c .before .before .before .before .before .before .before .before .before .before .before .pre .1 .0 .standing .splits
+
+  -- The dimension on which the node splits is one of four.
+  splits-small : (c : node-lts.Start node-calls node-at node.Post) → c .args .run .axis < 4
+  splits-small c = let w = c .pre .1 .0 .standing in omega (arith, own-point w (c .pre .1 .1 .0) .few)
 
   node-left-run-requires : node-lts.Need-left-run-requires node-calls node-at node.Post
-  node-left-run-requires c κs =
-      let s = c .before .before .before .before .before .before .before .before .before .before .before .before in
-      let w = s .pre .1 .0 .0 in
-      let some = s .pre .1 .1 .0 in
-      let r = w .ready in
-      splits-small s
+  node-left-run-requires c κs = splits-small (c .before .before .before .before .before .before .before .before .before .before .before .before)
 
   node-right-run-requires : node-lts.Need-right-run-requires node-calls node-at node.Post
   node-right-run-requires c κs =
       let s = c .before .before .before .before .before .before .before .before .before .before .before .before .before in
-      let w = s .pre .1 .0 .0 in
-      let some = s .pre .1 .1 .0 in
-      let r = w .ready in
-      (splits-small s, (some, omega arith))
+      let w = s .pre .1 .0 .standing in
+      (splits-small s, (s .pre .1 .1 .0, omega arith))
 
   node-branch-requires : node-lts.Need-branch-requires node-calls node-at node.Post
   node-branch-requires c κs =
       let s = c .before .before .before .before .before .before .before .before .before .before .before .before .before .before .before in
-      let k = s .args .k in
-      let j = s .args .run .axis in
-      let w = s .pre .1 .0 .0 in
-      let lives = s .pre .1 .0 .1 in
-      let some = s .pre .1 .1 .0 in
       let l = left-is (c .before .before) in
-      let own = ready-own (w .ready) some in (
-        omega (arith, s .pre .0, l .slots),
-        (
-          child-walkable k j l (rw (l .starts) (walkable-left w some)),
-          child-lives k j l (lives-nested (left-nested own _) lives),
-          child-splits k j l (w .some),
-          rw (l .starts) (s .pre .1 .0 .3),
-        ),
-      )
+      let some = s .pre .1 .1 .0 in
+      (omega (arith, s .pre .0, l .slots), walkable-left (s .pre .1 .0) some l)
 
   node-place-requires-2 : node-lts.Need-place-requires-2 node-calls node-at node.Post
   node-place-requires-2 c κs =
       let s = c .before .before .before .before .before .before .before .before .before .before .before .before .before .before .before .before .before .before .before in
-      let k = s .args .k in
-      let j = s .args .run .axis in
-      let w = s .pre .1 .0 .0 in
-      let some = s .pre .1 .1 .0 in
-      let l = left-is (c .before .before .before .before .before .before) in
-      let v = child-walked k j l (s .args .order .now) refl (c .before .before .before .branch .ensures) in
-      let half = run-length (s .args .order .now) (s .args .run .start) (s .args .run .length / 2) (omega arith) in
-      omega (arith, walked-numbers v, v .filled .size, l .starts, l .slots, s .pre .1 .0 .3, w .ready .fits, w .ready .size)
+      own-fits (s .pre .1 .0) (s .pre .1 .1 .0) (left-is (c .before .before .before .before .before .before)) (c .before .before .before .branch .ensures)
 
   node-branch-requires-2 : node-lts.Need-branch-requires-2 node-calls node-at node.Post
   node-branch-requires-2 c κs =
       let s = c .before .before .before .before .before .before .before .before .before .before .before .before .before .before .before .before .before .before .before .before .before .before .before in
-      let k = s .args .k in
-      let j = s .args .run .axis in
-      let w = s .pre .1 .0 .0 in
-      let lives = s .pre .1 .0 .1 in
       let some = s .pre .1 .1 .0 in
       let l = left-is (c .before .before .before .before .before .before .before .before .before .before) in
-      let v = rw (l .starts, l .slots) at (child-walked k j l (s .args .order .now) refl (c .before .before .before .before .before .before .before .branch .ensures)) in
-      let own = ready-own (w .ready) some in
-      let told = point-told (c .before .before .before .before .before .before .before .before .before .before .before .before .before .before .before .before .before .point-at .ensures) (c .before .before .before .before .before .before .before .before .before .before .before .before .before .before .before .before .inside-live .ensures) .tells lives own in
-      let f = rw (told, v .filled .size, w .ready .size) at (c .before .before .before .place2 .ensures) in
-      let half = run-length (s .args .order .now) (s .args .run .start) (s .args .run .length / 2) (omega (arith, w .ready .fits)) in
-      let r = right-is (c .before .before .before .before .before .before .before .before .before) in (
-        omega (arith, s .pre .0, r .slots),
-        (
-          child-walkable k j r (rw (r .starts) (walkable-right w some v f)),
-          child-lives k j r (lives-nested (right-nested own _) lives),
-          child-splits k j r (w .some),
-          rw (r .starts) (omega (arith, walked-numbers v, half, placed-most f, s .pre .1 .0 .3)),
-        ),
-      )
+      let r = right-is (c .before .before .before .before .before .before .before .before .before) in
+      let own = rw (told (c .before .before .before .before .before .before .before .before .before .before .before .before .before .before .before .before)) at (c .before .before .before .place2 .ensures) in
+      (omega (arith, s .pre .0, r .slots, some), walkable-right (s .pre .1 .0) some l (c .before .before .before .before .before .before .before .branch .ensures) own r)
 
   node-returns-2 : node-lts.Need-returns-2 node-calls node-at node.Post
   node-returns-2 c =
       let s = c .before .before .before .before .before .before .before .before .before .before .before .before .before .before .before .before .before .before .before .before .before .before .before .before .before .before in
-      let k = s .args .k in
-      let j = s .args .run .axis in
-      let w = s .pre .1 .0 .0 in
-      let lives = s .pre .1 .0 .1 in
-      let some = s .pre .1 .1 .0 in
       let l = left-is (c .before .before .before .before .before .before .before .before .before .before .before .before .before) in
-      let v = rw (l .starts, l .slots) at (child-walked k j l (s .args .order .now) refl (c .before .before .before .before .before .before .before .before .before .before .branch .ensures)) in
-      let own = ready-own (w .ready) some in
-      let told = point-told (c .before .before .before .before .before .before .before .before .before .before .before .before .before .before .before .before .before .before .before .before .point-at .ensures) (c .before .before .before .before .before .before .before .before .before .before .before .before .before .before .before .before .before .before .before .inside-live .ensures) .tells lives own in
-      let f = rw (told, v .filled .size, w .ready .size) at (c .before .before .before .before .before .before .place2 .ensures) in
       let r = right-is (c .before .before .before .before .before .before .before .before .before .before .before .before) in
-      let a = s .args .run .start in
-      let n = s .args .run .length in
-      let i = c .before .before .branch2 .result .inside in
-      let all : a + n - i ≡ a + n / 2 + 1 + (n - n / 2 - 1) - i = omega (arith, some) in
-      rw all (walked-node (w .ready) some v f (s .pre .1 .1 .1) (rw (r .starts, r .slots) at (child-walked k j r (s .args .order .now) refl (c .before .before .branch2 .ensures))))
+      let own = rw (told (c .before .before .before .before .before .before .before .before .before .before .before .before .before .before .before .before .before .before .before)) at (c .before .before .before .before .before .before .place2 .ensures) in
+      walked-both (s .pre .1 .0) (s .pre .1 .1 .0) l (c .before .before .before .before .before .before .before .before .before .before .branch .ensures) own r (s .pre .1 .1 .1) (c .before .before .branch2 .ensures)
 
   node-same-length-2 : node-lts.Need-same-length-2 node-calls node-at node.Post
-  node-same-length-2 c = node-returns-2 c .filled .size
+  node-same-length-2 c = node-returns-2 c .listed .filled .size
 
 pub +branch+node-spec : {M : Type 1} → statement M
 +branch+node-spec = close μ-branch μ-node
@@ -411,8 +335,6 @@ pub +branch+node-spec : {M : Type 1} → statement M
     (branch-judge-requires t)
     (branch-add-e t)
     (branch-enum-told t)
-    (branch-sub-end t)
-    (branch-sub-end-2 t)
     (branch-mul-copy-outside t)
     (branch-sub-copy-outside t)
     (branch-part-copy-outside-start t)
