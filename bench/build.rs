@@ -1,4 +1,4 @@
-//! Compiles the contenders in C++ and links them, and the library's archive, into the benchmark.
+//! Compiles the contenders in C++ and links them into the benchmark. The library comes with its Rust crate.
 
 use std::env;
 use std::path::{Path, PathBuf};
@@ -58,21 +58,13 @@ fn compile_contenders(folder: &Path) {
     run(Command::new("ar").arg("rcs").arg(archive).args(objects));
 }
 
-/// Compiles, copies the library's archive beside the contenders and says what to link.
+/// Compiles and says what to link.
 fn main() {
     let folder = PathBuf::from(env::var("OUT_DIR").expect("cargo names the folder"));
     println!("cargo:rerun-if-changed=cpp");
     println!("cargo:rerun-if-env-changed=CXX");
-    println!("cargo:rerun-if-env-changed=HORNHERDER_ARCHIVE");
     compile_contenders(&folder);
-    let archive = env::var("HORNHERDER_ARCHIVE")
-        .unwrap_or_else(|_| "../target/staticlib/libhornherder.a".to_string());
-    println!("cargo:rerun-if-changed={archive}");
-    if let Err(error) = std::fs::copy(&archive, folder.join("libhornherder.a")) {
-        panic!("the library's archive {archive}: {error}");
-    }
     println!("cargo:rustc-link-search=native={}", folder.display());
     println!("cargo:rustc-link-lib=static=contenders");
-    println!("cargo:rustc-link-lib=static=hornherder");
     println!("cargo:rustc-link-lib=dylib=stdc++");
 }
