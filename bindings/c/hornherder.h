@@ -1,10 +1,11 @@
 /*
  * Hornherder for C and C++: points of whole numbers on a shelf, arranged as a k-d tree.
  *
- *   hornherder_build   arranges points as a shelf
- *   hornherder_check   says whether an order is that shelf
- *   hornherder_list    lists the points inside and outside a region, by way of the shelf
- *   hornherder_place   tests one point against a region
+ *   hornherder_build     arranges points as a shelf
+ *   hornherder_check     says whether an order is that shelf
+ *   hornherder_list      lists the points inside and outside a region, by way of the shelf
+ *   hornherder_place     tests one point against a region
+ *   hornherder_version   says to which version of this file the library belongs
  *
  * Points. A point is k whole numbers. The n points are numbered 0 to n - 1 and lent one after the
  * other: coordinate s of point p is points[p * k + s].
@@ -53,10 +54,10 @@ extern "C" {
 #endif
 
 /*
- * The version of this file and of the archive that it belongs to. It rises when a name, a layout or
- * the meaning of a number changes.
+ * The version of this file and of the library that it belongs to, which hornherder_version answers.
+ * It rises by one with each change of a name, a layout or the meaning of a number.
  */
-#define HORNHERDER_VERSION 1
+#define HORNHERDER_VERSION 2
 
 /* k, how many coordinates a point has. */
 #define HORNHERDER_MIN_DIMENSION 1
@@ -178,6 +179,12 @@ hornherder_listing hornherder_list(size_t k, size_t n, size_t h, const int32_t *
 hornherder_placing hornherder_place(size_t k, size_t h, const int32_t *point, size_t point_len,
                                     const int32_t *normals, size_t normals_len,
                                     const int64_t *offsets, size_t offsets_len);
+
+/*
+ * Answers the version of the library: HORNHERDER_VERSION where it belongs to this file. With any
+ * other answer no other call may be made.
+ */
+uint32_t hornherder_version(void);
 
 #ifdef __cplusplus
 }

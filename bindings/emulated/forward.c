@@ -1,5 +1,5 @@
 /*
- * The four calls for programs of a machine that is not x86-64, for tests alone: each is passed to serve.c, which makes it
+ * The calls for programs of a machine that is not x86-64, for tests alone: each is passed to serve.c, which makes it
  * with the library itself under an emulator. The program that runs serve.c is started by the first call.
  */
 #define _GNU_SOURCE
@@ -142,4 +142,10 @@ hornherder_placing hornherder_place(size_t k, size_t h, const int32_t *point, si
     hornherder_listing answer = forward(WIRE_PLACE, k, 0, h, buffers);
     hornherder_placing placing = {answer.code, answer.inside};
     return placing;
+}
+
+uint32_t hornherder_version(void)
+{
+    const lent buffers[WIRE_BUFFERS] = {{NULL, 0, 0}};
+    return forward(WIRE_VERSION, 0, 0, 0, buffers).code;
 }

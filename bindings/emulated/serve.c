@@ -98,6 +98,9 @@ static hornherder_listing call(const wire_request *r, void **b)
         answer.code = placing.code;
         answer.inside = placing.inside;
         return answer;
+    case WIRE_VERSION:
+        answer.code = hornherder_version();
+        return answer;
     }
     _exit(1);
 }

@@ -17,10 +17,11 @@
 //! let answer = raw::list(1, 2, 1, &points, &order, &[1], &[5], &mut list);
 //! assert_eq!((answer.inside, answer.outside, answer.visits), (1, 1, 2));
 //! assert_eq!(raw::place(5, 0, &[], &[], &[]).code, 1);
+//! assert_eq!(raw::version(), raw::VERSION);
 //! ```
 
 /// The version of the calls and of the archive: the header's `HORNHERDER_VERSION`.
-pub const VERSION: u32 = 1;
+pub const VERSION: u32 = 2;
 
 /// The stack that is enough for any call, in bytes.
 pub const STACK_BYTES: usize = 32_768;
@@ -94,6 +95,8 @@ extern "C" {
         offsets: *const i64,
         offsets_len: usize,
     ) -> Placing;
+
+    fn hornherder_version() -> u32;
 }
 
 // In every call below the pointers and lengths are those of live slices, and a slice that is written is
@@ -178,4 +181,12 @@ pub fn place(k: usize, h: usize, point: &[i32], normals: &[i32], offsets: &[i64]
             offsets.len(),
         )
     }
+}
+
+/// The version of the library that is linked: [`VERSION`] where it is the one that this crate is for. With
+/// any other answer no other call may be made.
+#[must_use]
+pub fn version() -> u32 {
+    // SAFETY: it takes nothing.
+    unsafe { hornherder_version() }
 }

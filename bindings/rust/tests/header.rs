@@ -66,9 +66,10 @@ fn same_constants() {
     assert!(header.is_empty(), "only in the header: {header:?}");
 }
 
-/// The crate's version starts with the header's.
+/// The crate's version starts with the header's, which is the library's.
 #[test]
 fn same_version() {
     let major = env!("CARGO_PKG_VERSION_MAJOR");
     assert_eq!(major.parse(), Ok(raw::VERSION));
+    assert_eq!(raw::version(), raw::VERSION);
 }
