@@ -40,8 +40,11 @@
  *
  * Stack. A call needs less than HORNHERDER_STACK_BYTES of stack, whatever its arguments.
  *
- * Machine. The library is compiled for x86-64 Linux, with the calling convention that C compilers
- * use there. Of the C library it needs at most memcpy, memmove and memset.
+ * Machine. The library is compiled for x86-64 Linux or for Arm (aarch64) Linux, with the calling
+ * convention that C compilers use there. Of the C library it needs at most memcpy, memmove and
+ * memset. What is proved is proved of one module, which the toolchain's compiler (LLVM) turns into
+ * code: for x86-64 by its x86-64 back end, for Arm by its Arm one. Neither back end is proved; both
+ * are assumed to give code that does what the module says, and so alike.
  */
 #ifndef HORNHERDER_H
 #define HORNHERDER_H
@@ -54,8 +57,9 @@ extern "C" {
 #endif
 
 /*
- * The version of this file and of the library that it belongs to, which hornherder_version answers.
- * It rises by one with each change of a name, a layout or the meaning of a number.
+ * The version of this file and of the library that it belongs to, which hornherder_version answers
+ * and the shared library has behind its name. It rises by one with each change of a name, a layout
+ * or the meaning of a number.
  */
 #define HORNHERDER_VERSION 2
 
