@@ -202,6 +202,58 @@ def odd_texts(rng):
         yield "arbitrary text %d" % number, bytes(rng.choice(b"0123 -\n") for _ in range(rng.randint(1, 40)))
 
 
+def told_texts():
+    """Wrong texts, each with what bin/shelf tells of it: the first line that is wrong, and why."""
+    six = b"".join(SIX_POINTS)
+    yield b"", b"line 1: is missing: the text is empty"
+    yield b"\xef\xbb\xbf" + six, b"line 1: starts with a byte order mark"
+    yield six.replace(b"\n", b"\r\n"), b"line 1: ends with a carriage return"
+    yield six.replace(b"4 2\n", b"4 2\r\n"), b"line 3: ends with a carriage return"
+    yield six.replace(b"\n", b"\r"), b"line 1: ends with a carriage return"
+    yield six.replace(b"4 2\n", b"4\r2\n"), b"line 3: has a carriage return"
+    yield b"2 6\n", b"line 1: has 2 numbers, not the three k n h"
+    yield b"2\n", b"line 1: has 1 number, not the three k n h"
+    yield b"0 6 2\n", b"line 1: k is 0, at least 1"
+    yield b"10 6 2\n", b"line 1: k is 10, at most 9"
+    yield b"2 513 2\n", b"line 1: n is 513, at most 512"
+    yield b"2 -6 2\n", b"line 1: n is -6, at least 0"
+    yield b"2 6 65\n", b"line 1: h is 65, at most 64"
+    yield b"6 2 2\n1 5\n", b"line 2: has 2 numbers, and a point has 6 where k is 6"
+    yield b"1 0 1\n1\n", b"line 2: has 1 number, and a face has 2 where k is 1"
+    for word, why in (
+        (b"0.5", b"0.5 is not a whole number"),
+        (b"1,5", b"1,5 is not a whole number"),
+        (b"-2e3", b"-2e3 is not a whole number"),
+        (b"x", b"x is not a number"),
+        (b"-", b"- is not a number"),
+        (b"--1", b"--1 is not a number"),
+        (b"1\0", b"has a character that is no digit"),
+        (b"\xc3\xa9", b"has a character that is no digit"),
+        (b"+5", b"+5 has a plus sign"),
+        (b"05", b"05 has a leading zero"),
+        (b"-05", b"-05 has a leading zero"),
+        (b"-0", b"-0 is not written so, but 0"),
+        (b"12345678901", b"12345678901 has more than ten digits"),
+        (b"1" * 60, b"1" * 24 + b".. has more than ten digits"),
+        (b"2147483648", b"2147483648 is beyond 32 bits"),
+        (b"-2147483649", b"-2147483649 is beyond 32 bits"),
+        (b"", b"is empty"),
+        (b"\t5", b"has a tab"),
+        (b" 5", b"starts with a space"),
+        (b"5 ", b"ends with a space"),
+        (b"5  6", b"has two spaces together"),
+    ):
+        yield b"1 1 0\n" + word + b"\n", b"line 2: " + why
+    yield b"1 0 1\n2147483648 1\n", b"line 2: 2147483648 is beyond 32 bits"
+    yield b"1 0 0\n\n", b"line 2: comes after the last one: where n is 0 and h is 0 there is 1 line"
+    yield six[:-1], b"line 9: ends with no newline"
+    yield b"".join(SIX_POINTS[:-1]), b"line 9: is missing: where n is 6 and h is 2 there are 9 lines"
+    yield six + b"\n", b"line 10: comes after the last one: where n is 6 and h is 2 there are 9 lines"
+    yield six + b"1", b"line 10: comes after the last one: where n is 6 and h is 2 there are 9 lines"
+    yield text_of_size(LONGEST + 1), b"line 513: goes beyond 32,768 bytes"
+    yield b"1" * (LONGEST + 1), b"line 1: goes beyond 32,768 bytes"
+
+
 def all_texts(rng):
     """The whole corpus."""
     groups = [valid_texts(rng), limit_texts(), broken_texts(rng), edited_texts(), long_texts(rng), odd_texts(rng)]

@@ -33,7 +33,7 @@
  * rising order of these numbers, all of them before its first write, and returns the lowest that
  * holds. A refused call changes no lent number, and every other number in its answer is 0. Apart
  * from the rules on buffers above there is nothing that a caller must see to: any k, n, h, lengths
- * and lent numbers get the answer promised here.
+ * and lent numbers get the answer promised here. hornherder_refusal_text says what a number means.
  *
  * Threads. The library has no state. Any number of threads may call at once, as long as nobody
  * writes a buffer while it is lent, and nobody reads one while it is lent to be written.
@@ -88,18 +88,53 @@ extern "C" {
 /* The stack that is enough for any call, in bytes. */
 #define HORNHERDER_STACK_BYTES 32768
 
-/* The numbers that calls return. */
-#define HORNHERDER_DONE 0u             /* done */
-#define HORNHERDER_DIMENSION 1u        /* k is not 1 to 4 */
-#define HORNHERDER_TOO_MANY_POINTS 2u  /* n is over 65,535 */
-#define HORNHERDER_POINTS_LENGTH 3u    /* points_len is not k * n; point_len is not k */
-#define HORNHERDER_SHORT_BUFFER 4u     /* order_len or list_len is below n */
-#define HORNHERDER_COORDINATE_RANGE 5u /* a coordinate is not -32,768 to 32,767 */
-#define HORNHERDER_TOO_MANY_FACES 6u   /* h is over 32 */
-#define HORNHERDER_FACES_LENGTH 7u     /* normals_len is not k * h, or offsets_len is not h */
-#define HORNHERDER_FACE_RANGE 8u       /* a component is not -32,767 to 32,767, */
-                                       /* or an offset not -8,589,934,592 to 8,589,934,592 */
-#define HORNHERDER_NOT_THE_TREE 9u     /* the first n slots are not the shelf of these points */
+/* The numbers that calls return; hornherder_refusal_text says what each means. */
+#define HORNHERDER_DONE 0u
+#define HORNHERDER_DIMENSION 1u
+#define HORNHERDER_TOO_MANY_POINTS 2u
+#define HORNHERDER_POINTS_LENGTH 3u
+#define HORNHERDER_SHORT_BUFFER 4u
+#define HORNHERDER_COORDINATE_RANGE 5u
+#define HORNHERDER_TOO_MANY_FACES 6u
+#define HORNHERDER_FACES_LENGTH 7u
+#define HORNHERDER_FACE_RANGE 8u
+#define HORNHERDER_NOT_THE_TREE 9u
+
+/* When a call returns this number, and the likely cause. */
+static inline const char *hornherder_refusal_text(uint32_t number)
+{
+    switch (number) {
+    case HORNHERDER_DONE:
+        return "done";
+    case HORNHERDER_DIMENSION:
+        return "k is not 1 to 4; likely: points of more than four coordinates (in a text 5 to 9)";
+    case HORNHERDER_TOO_MANY_POINTS:
+        return "n is over 65,535; likely: a stock for several shelves";
+    case HORNHERDER_POINTS_LENGTH:
+        return "the points are not k times n long (one point: not k); "
+               "likely: n counted in coordinates, or a k of another shelf";
+    case HORNHERDER_SHORT_BUFFER:
+        return "the order or the list buffer is shorter than n; "
+               "likely: a buffer of an older, smaller shelf";
+    case HORNHERDER_COORDINATE_RANGE:
+        return "a coordinate is not -32,768 to 32,767; likely: colours on another scale";
+    case HORNHERDER_TOO_MANY_FACES:
+        return "h is over 32; "
+               "likely: faces that cut nothing off (in a text 33 to 64 faces)";
+    case HORNHERDER_FACES_LENGTH:
+        return "the normals are not k times h long, or the offsets not h; "
+               "likely: a face too many in one of the two, or faces of another dimension";
+    case HORNHERDER_FACE_RANGE:
+        return "a component is not -32,767 to 32,767, "
+               "or an offset not -8,589,934,592 to 8,589,934,592; "
+               "likely: a normal scaled too far, or an offset in a component's place";
+    case HORNHERDER_NOT_THE_TREE:
+        return "the first n slots are not the tree of these points; "
+               "likely: the points changed, or the order is of another shelf: build again";
+    default:
+        return "no number of this version";
+    }
+}
 
 /* What hornherder_list answers. */
 typedef struct {

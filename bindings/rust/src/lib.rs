@@ -27,6 +27,9 @@
 //! # Ok::<(), hornherder::Refusal>(())
 //! ```
 //!
+//! The first shelf or region that is made asks the library for its version; one of another version is
+//! refused with [`Refusal::OtherVersion`].
+//!
 //! The library keeps no state, so any number of threads may call at once. A call needs less than
 //! [`raw::STACK_BYTES`] of stack.
 

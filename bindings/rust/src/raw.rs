@@ -1,8 +1,9 @@
 //! The thin layer: the calls of the library with k, n, h and the slices as given.
 //!
-//! Nothing is derived and nothing is tested here, so every refusal can be met. The numbers that calls
-//! return are those of [`Refusal::number`](crate::Refusal::number), and 0 for done. A refused call changes
-//! no lent number, and every other number in its answer is 0.
+//! Nothing is derived and nothing is tested here, not even whether the library is of this [`VERSION`], so
+//! every refusal can be met. The numbers that calls return are those of
+//! [`Refusal::number`](crate::Refusal::number), and 0 for done. A refused call changes no lent number, and
+//! every other number in its answer is 0.
 //!
 //! ```
 //! use hornherder::raw;

@@ -1,105 +1,88 @@
 //! The reasons for which a call is refused.
 
+use crate::raw;
 use std::error::Error;
 use std::fmt;
+use std::sync::OnceLock;
 
-/// Why a call was refused. Nothing was written; of several reasons the one with the lowest number is
-/// given.
-///
-/// ```
-/// use hornherder::{Refusal, Shelf};
-///
-/// let refusal = Shelf::build(2, vec![1, 2, 3]).unwrap_err();
-/// assert_eq!(refusal, Refusal::PointsLength);
-/// assert_eq!(refusal.number(), 3);
-/// assert_eq!(Refusal::from_number(3), Some(refusal));
-/// ```
-#[derive(Clone, Copy, Debug, PartialEq, Eq, PartialOrd, Ord, Hash)]
-#[non_exhaustive]
-pub enum Refusal {
-    /// 1: k is not 1 to 4.
-    Dimension = 1,
-    /// 2: there are more than 65,535 points.
-    TooManyPoints = 2,
-    /// 3: the coordinates are not exactly k for each point.
-    PointsLength = 3,
-    /// 4: the order or the list buffer has fewer places than there are points.
-    ShortBuffer = 4,
-    /// 5: a coordinate is not -32,768 to 32,767.
-    CoordinateRange = 5,
-    /// 6: there are more than 32 faces.
-    TooManyFaces = 6,
-    /// 7: the normals are not exactly k for each face, or the offsets not one for each.
-    FacesLength = 7,
-    /// 8: a component is not -32,767 to 32,767, or an offset not -8,589,934,592 to 8,589,934,592.
-    FaceRange = 8,
-    /// 9: the order is not the tree of these points.
-    NotTheTree = 9,
+/// Makes the refusals of the library from one table: name, number, when it is given, and the likely cause.
+macro_rules! refusals {
+    ($($name:ident = $number:literal, $given:literal, $likely:literal;)*) => {
+        /// Why a call was refused. Nothing was written; of several reasons the one with the lowest number
+        /// is given.
+        ///
+        /// ```
+        /// use hornherder::{Refusal, Shelf};
+        ///
+        /// let refusal = Shelf::build(2, vec![1, 2, 3]).unwrap_err();
+        /// assert_eq!(refusal, Refusal::PointsLength);
+        /// assert_eq!(refusal.number(), 3);
+        /// assert_eq!(Refusal::from_number(3), Some(refusal));
+        /// ```
+        #[derive(Clone, Copy, Debug, PartialEq, Eq, PartialOrd, Ord, Hash)]
+        #[non_exhaustive]
+        pub enum Refusal {
+            $(
+                #[doc = concat!(stringify!($number), ": ", $given, ".")]
+                $name,
+            )*
+            /// The library that is linked has this version of the interface, and the crate is for another:
+            /// [`raw::VERSION`]. No call was made.
+            OtherVersion(u32),
+            /// The library returned this number, which the crate does not know.
+            Unknown(u32),
+        }
+
+        impl Refusal {
+            /// Every refusal that the library returns, in rising order of its number.
+            pub const ALL: &'static [Refusal] = &[$(Refusal::$name),*];
+
+            /// The number that the library returned; 0 where it is of another version and was not called.
+            pub fn number(self) -> u32 {
+                match self {
+                    $(Refusal::$name => $number,)*
+                    Refusal::OtherVersion(_) => 0,
+                    Refusal::Unknown(number) => number,
+                }
+            }
+        }
+
+        impl fmt::Display for Refusal {
+            fn fmt(&self, out: &mut fmt::Formatter<'_>) -> fmt::Result {
+                match self {
+                    $(Refusal::$name => write!(out, "refused ({}): {}; likely: {}", $number, $given, $likely),)*
+                    Refusal::OtherVersion(version) => write!(
+                        out,
+                        "the library that is linked has version {version} of the interface, and this crate is for version {}; likely: an archive of another build in HORNHERDER_LIB_DIR",
+                        raw::VERSION
+                    ),
+                    Refusal::Unknown(number) => write!(
+                        out,
+                        "refused ({number}): a number that this crate does not know"
+                    ),
+                }
+            }
+        }
+    };
+}
+
+refusals! {
+    Dimension = 1, "k is not 1 to 4", "points of more than four coordinates (in a text 5 to 9)";
+    TooManyPoints = 2, "n is over 65,535", "a stock for several shelves";
+    PointsLength = 3, "the points are not k times n long (one point: not k)", "n counted in coordinates, or a k of another shelf";
+    ShortBuffer = 4, "the order or the list buffer is shorter than n", "a buffer of an older, smaller shelf";
+    CoordinateRange = 5, "a coordinate is not -32,768 to 32,767", "colours on another scale";
+    TooManyFaces = 6, "h is over 32", "faces that cut nothing off (in a text 33 to 64 faces)";
+    FacesLength = 7, "the normals are not k times h long, or the offsets not h", "a face too many in one of the two, or faces of another dimension";
+    FaceRange = 8, "a component is not -32,767 to 32,767, or an offset not -8,589,934,592 to 8,589,934,592", "a normal scaled too far, or an offset in a component's place";
+    NotTheTree = 9, "the first n slots are not the tree of these points", "the points changed, or the order is of another shelf: build again";
 }
 
 impl Refusal {
-    /// Every refusal, in rising order of its number.
-    pub const ALL: [Refusal; 9] = [
-        Refusal::Dimension,
-        Refusal::TooManyPoints,
-        Refusal::PointsLength,
-        Refusal::ShortBuffer,
-        Refusal::CoordinateRange,
-        Refusal::TooManyFaces,
-        Refusal::FacesLength,
-        Refusal::FaceRange,
-        Refusal::NotTheTree,
-    ];
-
-    /// The number that the library returns for it.
-    pub fn number(self) -> u32 {
-        self as u32
-    }
-
     /// The refusal with this number; none for 0, which is done, and for numbers that no call returns.
     pub fn from_number(number: u32) -> Option<Refusal> {
-        Refusal::ALL
-            .into_iter()
-            .find(|refusal| refusal.number() == number)
-    }
-
-    /// What is wrong, and the likely cause.
-    fn sentence(self) -> &'static str {
-        match self {
-            Refusal::Dimension => {
-                "the dimension k is not 1 to 4; it is how many coordinates one point has"
-            }
-            Refusal::TooManyPoints => {
-                "there are more than 65,535 points; split the stock into several shelves"
-            }
-            Refusal::PointsLength => {
-                "the coordinates are not exactly k for each point; the slice was cut short, or k belongs to other points"
-            }
-            Refusal::ShortBuffer => {
-                "the order or the list buffer has fewer places than there are points; it was likely made for a smaller shelf"
-            }
-            Refusal::CoordinateRange => {
-                "a coordinate is not -32,768 to 32,767; it was likely not scaled to 16 bits"
-            }
-            Refusal::TooManyFaces => {
-                "the region has more than 32 faces; leave out those that cut nothing off"
-            }
-            Refusal::FacesLength => {
-                "the normals are not exactly k components for each face, or the offsets not one for each; the region was likely made for another dimension"
-            }
-            Refusal::FaceRange => {
-                "a component is not -32,767 to 32,767, or an offset not -8,589,934,592 to 8,589,934,592; scale the face down"
-            }
-            Refusal::NotTheTree => {
-                "the order is not the tree of these points; the points likely changed after it was built, so build it anew"
-            }
-        }
-    }
-}
-
-impl fmt::Display for Refusal {
-    fn fmt(&self, out: &mut fmt::Formatter<'_>) -> fmt::Result {
-        write!(out, "refused ({}): {}", self.number(), self.sentence())
+        let mut all = Refusal::ALL.iter().copied();
+        all.find(|refusal| refusal.number() == number)
     }
 }
 
@@ -107,9 +90,17 @@ impl Error for Refusal {}
 
 /// Turns the number that a call returned into a result.
 pub(crate) fn done(code: u32) -> Result<(), Refusal> {
-    match Refusal::from_number(code) {
-        Some(refusal) => Err(refusal),
-        None if code == 0 => Ok(()),
-        None => unreachable!("the library returned {code}, which no call of this version returns"),
+    match code {
+        0 => Ok(()),
+        _ => Err(Refusal::from_number(code).unwrap_or(Refusal::Unknown(code))),
+    }
+}
+
+/// Refuses a library of another version. It is asked once, before the first shelf or region is made.
+pub(crate) fn same_version() -> Result<(), Refusal> {
+    static VERSION: OnceLock<u32> = OnceLock::new();
+    match *VERSION.get_or_init(raw::version) {
+        raw::VERSION => Ok(()),
+        other => Err(Refusal::OtherVersion(other)),
     }
 }

@@ -1,7 +1,7 @@
 //! A region: the points above every one of its faces.
 
 use crate::raw;
-use crate::refusal::{done, Refusal};
+use crate::refusal::{done, same_version, Refusal};
 use crate::MAX_DIMENSION;
 
 /// A region cut by flat faces. A point is above a face when the sum of the products of its coordinates
@@ -32,6 +32,7 @@ impl Region {
     /// # Ok::<(), hornherder::Refusal>(())
     /// ```
     pub fn new(k: usize, normals: Vec<i32>, offsets: Vec<i64>) -> Result<Region, Refusal> {
+        same_version()?;
         let origin = &[0; MAX_DIMENSION][..k.min(MAX_DIMENSION)];
         done(raw::place(k, offsets.len(), origin, &normals, &offsets).code)?;
         Ok(Region {

@@ -2,7 +2,7 @@
 
 use crate::listing::Listing;
 use crate::raw;
-use crate::refusal::{done, Refusal};
+use crate::refusal::{done, same_version, Refusal};
 use crate::region::Region;
 use std::borrow::Cow;
 
@@ -28,6 +28,7 @@ impl<'s> Shelf<'s> {
     /// # Ok::<(), hornherder::Refusal>(())
     /// ```
     pub fn build(k: usize, points: impl Into<Cow<'s, [i32]>>) -> Result<Shelf<'s>, Refusal> {
+        same_version()?;
         let points = points.into();
         let n = numbered(k, &points);
         let mut order = vec![0; n];
@@ -52,6 +53,7 @@ impl<'s> Shelf<'s> {
         points: impl Into<Cow<'s, [i32]>>,
         order: impl Into<Cow<'s, [u32]>>,
     ) -> Result<Shelf<'s>, Refusal> {
+        same_version()?;
         let (points, order) = (points.into(), order.into());
         let n = numbered(k, &points);
         done(raw::check(k, n, &points, &order))?;

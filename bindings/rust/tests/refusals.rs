@@ -75,16 +75,41 @@ fn of_list() {
     assert_eq!(buffer, [70, 71, 72]);
 }
 
-/// Each refusal has a number of its own, and a sentence that gives it.
+/// A row of the README's table: its number, when it is given, and the likely cause.
+fn row(line: &str) -> Option<(u32, &str, &str)> {
+    let cells: Vec<_> = line.split('|').map(str::trim).collect();
+    match cells[..] {
+        ["", number, _, given, likely, ""] => Some((number.parse().ok()?, given, likely)),
+        _ => None,
+    }
+}
+
+/// Each refusal has a number of its own, and says what the README's table says.
 #[test]
 fn numbers_and_sentences() {
-    for (number, refusal) in (1..).zip(Refusal::ALL) {
+    let readme = include_str!("../../../README.md");
+    let rows: Vec<_> = readme.lines().filter_map(row).collect();
+    assert_eq!(rows.len(), Refusal::ALL.len() + 1, "10 is the program's");
+    for (&(number, given, likely), &refusal) in rows.iter().zip(Refusal::ALL) {
         assert_eq!(refusal.number(), number);
         assert_eq!(Refusal::from_number(number), Some(refusal));
         let sentence = (&refusal as &dyn Error).to_string();
-        assert!(sentence.starts_with(&format!("refused ({number}): ")));
-        assert!(sentence.contains("; "), "{sentence} names no cause");
+        assert_eq!(
+            sentence,
+            format!("refused ({number}): {given}; likely: {likely}")
+        );
     }
     assert_eq!(Refusal::from_number(0), None);
     assert_eq!(Refusal::from_number(10), None);
+}
+
+/// What is no refusal of the library's has a sentence too.
+#[test]
+fn other_sentences() {
+    let other = Refusal::OtherVersion(7).to_string();
+    assert!(other.contains("version 7") && other.contains("version 2"));
+    assert_eq!(Refusal::OtherVersion(7).number(), 0);
+    let unknown = Refusal::Unknown(77);
+    assert!(unknown.to_string().contains("77"));
+    assert_eq!(unknown.number(), 77);
 }
