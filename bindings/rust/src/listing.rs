@@ -8,6 +8,7 @@ pub type Outside<'l> = Copied<Rev<Iter<'l, u32>>>;
 
 /// The numbers of the points inside and outside a region, each once and in shelf order, in the buffer
 /// that was lent for them.
+#[must_use]
 #[derive(Clone, Copy, Debug, PartialEq, Eq)]
 pub struct Listing<'l> {
     inside: &'l [u32],

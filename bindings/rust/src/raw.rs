@@ -28,6 +28,7 @@ pub const VERSION: u32 = 2;
 pub const STACK_BYTES: usize = 32_768;
 
 /// What [`list`] answers.
+#[must_use]
 #[repr(C)]
 #[derive(Clone, Copy, Debug, Default, PartialEq, Eq)]
 pub struct Listing {
@@ -42,6 +43,7 @@ pub struct Listing {
 }
 
 /// What [`place`] answers.
+#[must_use]
 #[repr(C)]
 #[derive(Clone, Copy, Debug, Default, PartialEq, Eq)]
 pub struct Placing {
@@ -104,6 +106,7 @@ extern "C" {
 // borrowed alone. The library asks for nothing more; where a length is 0 it takes any pointer.
 
 /// Writes the shelf of the points into the first `n` places of `order`. Refusals: 1 to 5.
+#[must_use]
 pub fn build(k: usize, n: usize, points: &[i32], order: &mut [u32]) -> u32 {
     // SAFETY: as said above.
     unsafe {
@@ -120,6 +123,7 @@ pub fn build(k: usize, n: usize, points: &[i32], order: &mut [u32]) -> u32 {
 
 /// Says 0 exactly where the first `n` places of `order` are the shelf of the points. Refusals: 1 to 5
 /// and 9.
+#[must_use]
 pub fn check(k: usize, n: usize, points: &[i32], order: &[u32]) -> u32 {
     // SAFETY: as said above.
     unsafe {
