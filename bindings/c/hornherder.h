@@ -40,6 +40,10 @@
  *
  * Stack. A call needs less than HORNHERDER_STACK_BYTES of stack, whatever its arguments.
  *
+ * Cost. A list call checks the order first, as hornherder_check does. On 65,535 points with 8 faces
+ * that is about seven tenths of the call on x86-64 and four fifths on Arm; on small shelves less. A
+ * check before a list call pays for it twice.
+ *
  * Machine. The library is compiled for x86-64 Linux or for Arm (aarch64) Linux, with the calling
  * convention that C compilers use there. Of the C library it needs at most memcpy, memmove and
  * memset. What is proved is proved of one module, which the toolchain's compiler (LLVM) turns into
@@ -175,7 +179,7 @@ uint32_t hornherder_check(size_t k, size_t n, const int32_t *points, size_t poin
                           const uint32_t *order, size_t order_len);
 
 /*
- * Lists the points of a shelf that are inside and outside a region.
+ * Lists the points of a shelf that are inside and outside a region. The order is checked first.
  *
  *   points   k * n coordinates, each -32,768 to 32,767
  *   order    at least n places; the first n must be the shelf of these points

@@ -30,6 +30,10 @@
 //! The first shelf or region that is made asks the library for its version; one of another version is
 //! refused with [`Refusal::OtherVersion`].
 //!
+//! What a call costs: a list call checks the order first. On 65,535 points with 8 faces that is about
+//! seven tenths of the call on x86-64 and four fifths on Arm; on small shelves less. A check before a list
+//! call pays for it twice.
+//!
 //! The library keeps no state, so any number of threads may call at once. A call needs less than
 //! [`raw::STACK_BYTES`] of stack.
 

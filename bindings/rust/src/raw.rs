@@ -139,7 +139,7 @@ pub fn check(k: usize, n: usize, points: &[i32], order: &[u32]) -> u32 {
 }
 
 /// Writes the numbers inside from the front of `list`, and those outside from place `n - 1` backwards,
-/// both in shelf order. Refusals: 1 to 9.
+/// both in shelf order. The order is checked first. Refusals: 1 to 9.
 #[allow(clippy::too_many_arguments)]
 pub fn list(
     k: usize,

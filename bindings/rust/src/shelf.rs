@@ -114,6 +114,9 @@ impl<'s> Shelf<'s> {
     /// ```
     ///
     /// Refused are a buffer with too few places, and faces made for another dimension.
+    ///
+    /// The library checks the order first, though a shelf's is right, and that is most of the call: see
+    /// [what a call costs](crate).
     pub fn list<'l>(&self, region: &Region, buffer: &'l mut [u32]) -> Result<Listing<'l>, Refusal> {
         let answer = raw::list(
             self.k,
