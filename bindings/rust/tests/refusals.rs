@@ -1,6 +1,6 @@
 //! Every refusal, met through the types that people use.
 
-use hornherder::{Refusal, Region, Shelf, MAX_OFFSET, MAX_POINTS};
+use hornherder::{raw, Refusal, Region, Shelf, MAX_OFFSET, MAX_POINTS};
 use std::error::Error;
 
 /// A region of so many faces, all of which hold every point of one coordinate.
@@ -106,9 +106,11 @@ fn numbers_and_sentences() {
 /// What is no refusal of the library's has a sentence too.
 #[test]
 fn other_sentences() {
-    let other = Refusal::OtherVersion(7).to_string();
-    assert!(other.contains("version 7") && other.contains("version 2"));
-    assert_eq!(Refusal::OtherVersion(7).number(), 0);
+    let other = Refusal::OtherVersion(700);
+    let own = format!("for version {};", raw::VERSION);
+    assert!(other.to_string().contains("has version 700"));
+    assert!(other.to_string().contains(&own));
+    assert_eq!(other.number(), 0);
     let unknown = Refusal::Unknown(77);
     assert!(unknown.to_string().contains("77"));
     assert_eq!(unknown.number(), 77);
