@@ -1,3 +1,4 @@
 pub mod Walked
+pub mod Tallied
 pub mod Parts
 pub mod Shelf

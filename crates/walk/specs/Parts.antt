@@ -1,5 +1,6 @@
--- What the node part and the branch part ask of a branch and what they do with it, and that it goes on to both branches of an open branch.
-use mathlib.Core.Path.{_≡_, _∙_}
+-- What the node part and the branch part ask of a branch and what they do with it: of an empty one, a settled one, a node alone, and an open one, whose two
+-- branches can be walked in turn.
+use mathlib.Core.Path.{_≡_}
 use mathlib.Core.Bool.{true, false}
 use mathlib.Core.List.{List}
 use Prim.Native.Nat.{ℕ, _+_, _-_, _/_, _≤_, _<_}
@@ -12,14 +13,12 @@ use Rattle.terms.specs.Lent.{Faces}
 use Rattle.terms.specs.Points.{coord}
 use Rattle.terms.specs.Run.{axis}
 use Rattle.terms.specs.Box.{Box, boxOf, leftBox, rightBox, boxes}
-use Rattle.terms.specs.Region.{Region, region, inside, whollyAbove, whollyBelow, isOpen}
+use Rattle.terms.specs.Region.{region, inside, whollyAbove, whollyBelow, isOpen}
 use Rattle.theory.specs.AllAndAny.{OneBelow}
 use Rattle.theory.specs.Boxes.{In}
 use Rattle.theory.specs.Nesting.{settled-none-open, above-all-settled, below-one-settled}
-use Rattle.theory.specs.Containment.{above-all-insides, above-all-outsides, below-one-insides, below-one-outsides}
 use Rattle.region.specs.Live.{Lives}
 use Rattle.list_buffer.specs.Filled.{Placed, pasteBack}
-use Rattle.list_buffer.specs.Listed.{listed-most, listed-inside, listed-outside}
 use Rattle.walk.specs.declared.Tally.{Tally}
 use Rattle.descent.specs.declared.runs.Run.{Run}
 use Rattle.descent.specs.Slots.{runOf, ownOf, lentOf, lent-run, run-length, run-whole}
@@ -28,13 +27,8 @@ use Rattle.descent.specs.Boxed.{Boxed, boxed-own, boxed-left, boxed-right}
 use Rattle.descent.specs.Faced.{Faced, faced-left, faced-right}
 use Rattle.descent.specs.Runs.{Child}
 use Rattle.descent.specs.SlotBoxes.{slotBoxes, slot-boxes-length, slot-boxes-whole}
-use Rattle.walk.specs.Walked.{Walked, walked-most, walked-none, walked-open}
-
--- The list has a place for each slot, no more numbers are inside than slots are done before slot a, and the visits leave room for those of c slots.
-pub record Tallied (order list : List ℕ) (a c i u : ℕ) : Type 0 where
-  pub size : length list ≡ length order
-  pub few : i ≤ a
-  pub seen : u + c ≤ length order
+use Rattle.walk.specs.Walked.{Walked, walked-none, walked-inside, walked-outside, walked-open}
+use Rattle.walk.specs.Tallied.{Tallied, tallied-left, tallied-own, tallied-right}
 
 -- A branch that can be walked: where it stands, its box, its faces, and room in the list and in the tally.
 pub record Walkable (k : ℕ) (points : List ℤ) (order : List ℕ) (f : Faces) (a c s : ℕ) (b : Box) (live : List ℕ) (count : ℕ) (list : List ℕ) (i u : ℕ) : Type 0 where
@@ -49,10 +43,10 @@ BranchWalked k points order f a c s b list after i u j v =
     Walked (region k f) (coord k points) (runOf order a c) (slotBoxes k (coord k points) order a c s b) list after a i u j v
 
 -- An empty branch.
-pub walked-empty : (k : ℕ) (points : List ℤ) (order : List ℕ) (f : Faces) (a c s : ℕ) (b : Box) (list : List ℕ) (i u : ℕ) → c ≡ 0
+pub branch-empty : (k : ℕ) (points : List ℤ) (order : List ℕ) (f : Faces) (a c s : ℕ) (b : Box) (list : List ℕ) (i u : ℕ) → c ≡ 0
     → BranchWalked k points order f a c s b list list i u i u
 unfolding boxes
-walked-empty k points order f a c s b list i u e = rw e (walked-none _ _ _ _ _ _)
+branch-empty k points order f a c s b list i u e = rw e (walked-none _ _ _ _ _ _)
 
 module _ {k : ℕ} {points : List ℤ} {order : List ℕ} {f : Faces} {a c s : ℕ} {b : Box} {live : List ℕ} {n : ℕ} {list : List ℕ} {i u : ℕ}
     (w : Walkable k points order f a c s b live n list i u) where
@@ -66,38 +60,24 @@ module _ {k : ℕ} {points : List ℤ} {order : List ℕ} {f : Faces} {a c s : �
     tallied = w .tallied;
   }
 
-  -- A settled branch, as its run was lent to a copier: no slot of it is open.
-  none-open : isOpen (region k f) b ≡ false → u ≡ u + count (isOpen (region k f)) (slotBoxes k (coord k points) order a c s b)
-  none-open shut = omega (
-    arith,
-    settled-none-open (w .standing .fuel) c (region k f) (coord k points) s (runOf order a c) b (w .standing .tree) (w .boxed .held) shut,
-  )
+  -- A settled branch, as its run was lent to a copier.
+  none-open : isOpen (region k f) b ≡ false → count (isOpen (region k f)) (slotBoxes k (coord k points) order a c s b) ≡ 0
+  none-open = settled-none-open (w .standing .fuel) c (region k f) (coord k points) s (runOf order a c) b (w .standing .tree) (w .boxed .held)
 
   room : a + length (runOf order a c) ≤ length list
   room = omega (arith, run-length order a c (w .standing .fits), w .tallied .size, w .standing .fits)
 
-  pub walked-inside : {after : List ℕ} → ((i : ℕ) → i < f .h → whollyAbove (region k f) b i ≡ true)
+  pub branch-inside : {after : List ℕ} → ((i : ℕ) → i < f .h → whollyAbove (region k f) b i ≡ true)
       → after ≡ paste list i (lentOf order a c) (length (lentOf order a c)) → BranchWalked k points order f a c s b list after i u (i + c) u
-  walked-inside above e =
-      let g : Region = region k f in
-      let held = w .boxed .held in
-      record {
-        listed = rw
-            (run-length order a c (w .standing .fits))
-            at (listed-inside (w .tallied .few) room (above-all-insides g held above) (above-all-outsides g held above) (rw (lent-run order a c) at e));
-        visits = none-open (above-all-settled g b above);
-      }
+  branch-inside above e =
+      rw (run-length order a c (w .standing .fits))
+      at (walked-inside u (w .tallied .few) room (w .boxed .held) (none-open (above-all-settled (region k f) b above)) above (rw (lent-run order a c) at e))
 
-  pub walked-outside : {after : List ℕ} → OneBelow (f .h) (whollyBelow (region k f) b) true
+  pub branch-outside : {after : List ℕ} → OneBelow (f .h) (whollyBelow (region k f) b) true
       → after ≡ pasteBack list (length list - (a - i)) (lentOf order a c) (length (lentOf order a c))
       → BranchWalked k points order f a c s b list after i u i u
-  walked-outside below e =
-      let g : Region = region k f in
-      let held = w .boxed .held in
-      record {
-        listed = listed-outside (w .tallied .few) room (below-one-insides g held below) (below-one-outsides g held below) (rw (lent-run order a c) at e);
-        visits = none-open (below-one-settled g b below);
-      }
+  branch-outside below e =
+      walked-outside u (w .tallied .few) room (w .boxed .held) (none-open (below-one-settled (region k f) b below)) below (rw (lent-run order a c) at e)
 
 module _ {k : ℕ} {points : List ℤ} {order : List ℕ} {f : Faces} {a c s : ℕ} {b : Box} {live : List ℕ} {n : ℕ} {list : List ℕ} {i u : ℕ}
     (w : Walkable k points order f a c s b live n list i u) (some : 0 < c) where
@@ -111,7 +91,7 @@ module _ {k : ℕ} {points : List ℤ} {order : List ℕ} {f : Faces} {a c s : �
     standing = standing-left (w .standing) some;
     boxed = boxed-left (w .standing) (w .boxed) some;
     faced = faced-left (w .faced) own-held s;
-    tallied = record { size = w .tallied .size; few = w .tallied .few; seen = omega (arith, w .tallied .seen) };
+    tallied = tallied-left (w .tallied) some;
   }
 
   -- Once it is walked and the node's own number placed, the right branch can.
@@ -127,11 +107,7 @@ module _ {k : ℕ} {points : List ℤ} {order : List ℕ} {f : Faces} {a c s : �
       standing = standing-right (w .standing) some;
       boxed = boxed-right (w .standing) (w .boxed) some;
       faced = faced-right (w .faced) own-held s;
-      tallied = record {
-        size = q .filled .size ∙ v .listed .filled .size ∙ w .tallied .size;
-        few = omega (arith, half, listed-most (v .listed) (w .tallied .few), q .filled .slots, q .filled .insides);
-        seen = omega (arith, w .tallied .seen, walked-most v (slot-boxes-length k (coord k points) order a (c / 2) (omega (arith, w .standing .fits)) _ _));
-      };
+      tallied = tallied-right (w .tallied) some v half (slot-boxes-length k (coord k points) order a (c / 2) (omega (arith, w .standing .fits)) _ _) q;
     }
 
     -- The three together are the walk of the branch.
@@ -146,15 +122,15 @@ module _ {k : ℕ} {points : List ℤ} {order : List ℕ} {f : Faces} {a c s : �
         (walked-open b e half v q r)
 
   -- A node alone in its branch: its own number is all there is to walk.
-  pub walked-alone : {next : List ℕ} {j : ℕ} → c ≡ 1 → isOpen (region k f) b ≡ true
+  pub branch-alone : {next : List ℕ} {j : ℕ} → c ≡ 1 → isOpen (region k f) b ≡ true
       → Placed list next (ownOf order a c) (inside (region k f) (coord k points (ownOf order a c))) (a + c / 2) i j
       → BranchWalked k points order f a c s b list next i u j (u + 1)
-  walked-alone one e q =
+  branch-alone one e q =
       walked-node
-      (walked-empty k points order f a (c / 2) _ _ list i (u + 1) (omega arith))
+      (branch-empty k points order f a (c / 2) _ _ list i (u + 1) (omega arith))
       q
       e
-      (walked-empty k points order f (a + c / 2 + 1) (c - c / 2 - 1) _ _ _ _ _ (omega arith))
+      (branch-empty k points order f (a + c / 2 + 1) (c - c / 2 - 1) _ _ _ _ _ (omega arith))
 
   -- The same, said of the values that the two branches are handed on as.
   module _ {start size split : ℕ} {box : Box}
@@ -166,10 +142,7 @@ module _ {k : ℕ} {points : List ℤ} {order : List ℕ} {f : Faces} {a c s : �
     pub own-fits : {first : List ℕ} {i₁ u₁ : ℕ} → BranchWalked k points order f start size split box list first i (u + 1) i₁ u₁
         → (i₁ ≤ a + c / 2) × (a + c / 2 < length first)
     own-fits v =
-        let half = run-length order start size (omega (arith, w .standing .fits, l .starts, l .slots)) in (
-          omega (arith, half, listed-most (v .listed) (omega (arith, w .tallied .few, l .starts)), l .starts, l .slots),
-          omega (arith, v .listed .filled .size, w .tallied .size, w .standing .fits),
-        )
+        tallied-own (w .tallied) some (rw (l .starts, l .slots, l .splits, l .in-box) at v) (run-length order a (c / 2) (omega (arith, w .standing .fits)))
 
     module _ {first next : List ℕ} {i₁ u₁ i₂ : ℕ} (v : BranchWalked k points order f start size split box list first i (u + 1) i₁ u₁)
         (q : Placed first next (ownOf order a c) (inside (region k f) (coord k points (ownOf order a c))) (a + c / 2) i₁ i₂)
@@ -182,10 +155,10 @@ module _ {k : ℕ} {points : List ℤ} {order : List ℕ} {f : Faces} {a c s : �
       pub walkable-right : Walkable k points order f start₂ size₂ split₂ box₂ live n next i₂ u₁
       walkable-right = rw (r .starts, r .slots, r .splits, r .in-box) (right-walkable left-walked q)
 
-      pub walked-both : {last : List ℕ} {i₃ u₃ : ℕ} → isOpen (region k f) b ≡ true
+      pub branch-open : {last : List ℕ} {i₃ u₃ : ℕ} → isOpen (region k f) b ≡ true
           → BranchWalked k points order f start₂ size₂ split₂ box₂ next last i₂ u₁ i₃ u₃
           → BranchWalked k points order f a c s b list last i u i₃ u₃
-      walked-both e z = walked-node left-walked q e (rw (r .starts, r .slots, r .splits, r .in-box) at z)
+      branch-open e z = walked-node left-walked q e (rw (r .starts, r .slots, r .splits, r .in-box) at z)
 
 -- What both parts ask of the branch and what they do, read off the values that they take and give.
 abbrev pub BranchAsks : ℕ → List ℤ → List ℕ → Faces → Run → List ℕ → ℕ → List ℕ → Tally → Type 0

@@ -3,16 +3,20 @@
 use mathlib.Core.Path.{_≡_, ap}
 use mathlib.Core.Bool.{true}
 use mathlib.Core.List.{List, [], _∷_, _++_}
-use Prim.Native.Nat.{ℕ, _+_, _≤_}
+use Prim.Native.Nat.{ℕ, _+_, _-_, _≤_, _<_}
 use native.Mathlib.Omega.{arith}
 use lib.ListN.{length}
+use lib.Seq.{paste}
 use lib.IntN.{ℤ}
 use Rattle.terms.specs.Tests.{bit, count}
 use Rattle.terms.specs.Box.{Box}
-use Rattle.terms.specs.Region.{Region, inside, isOpen}
+use Rattle.terms.specs.Region.{Region, inside, whollyAbove, whollyBelow, isOpen}
+use Rattle.theory.specs.AllAndAny.{OneBelow}
 use Rattle.theory.specs.Counting.{count-append, count-not}
-use Rattle.list_buffer.specs.Filled.{Placed}
-use Rattle.list_buffer.specs.Listed.{Listed, listed-none, listed-around}
+use Rattle.theory.specs.Boxes.{Held}
+use Rattle.theory.specs.Containment.{above-all-insides, above-all-outsides, below-one-insides, below-one-outsides}
+use Rattle.list_buffer.specs.Filled.{Placed, pasteBack}
+use Rattle.list_buffer.specs.Listed.{Listed, listed-none, listed-inside, listed-outside, listed-around}
 
 -- The walk of a run whose slots have these boxes, after d slots: from i numbers inside and u visits to j and v.
 pub record Walked (g : Region) (at : ℕ → ℕ → ℤ) (run : List ℕ) (slotBoxes : List Box) (list after : List ℕ) (d i u j v : ℕ) : Type 0 where
@@ -28,6 +32,23 @@ walked-most {g} {slotBoxes = slotBoxes} w e = omega (arith, w .visits, count-not
 pub walked-none : (g : Region) (at : ℕ → ℕ → ℤ) (list : List ℕ) (d i u : ℕ) → Walked g at [] [] list list d i u i u
 unfolding count
 walked-none g at list d i u = record { listed = listed-none _ list d i; visits = omega arith }
+
+-- A settled branch whose points lie in box b and of whose slots none is open: its run as a copier writes it, one way or the other.
+module _ {g : Region} {at : ℕ → ℕ → ℤ} {run : List ℕ} {slotBoxes : List Box} {list after : List ℕ} {d i : ℕ} {b : Box} (u : ℕ) (few : i ≤ d)
+    (room : d + length run ≤ length list) (held : Held (g .k) at b run) (none : count (isOpen g) slotBoxes ≡ 0) where
+  pub walked-inside : ((f : ℕ) → f < g .h → whollyAbove g b f ≡ true) → after ≡ paste list i run (length run)
+      → Walked g at run slotBoxes list after d i u (i + length run) u
+  walked-inside above e = record {
+    listed = listed-inside few room (above-all-insides g held above) (above-all-outsides g held above) e;
+    visits = omega arith;
+  }
+
+  pub walked-outside : OneBelow (g .h) (whollyBelow g b) true → after ≡ pasteBack list (length list - (d - i)) run (length run)
+      → Walked g at run slotBoxes list after d i u i u
+  walked-outside below e = record {
+    listed = listed-outside few room (below-one-insides g held below) (below-one-outsides g held below) e;
+    visits = omega arith;
+  }
 
 -- An open branch in box b: its own visit, its left branch of c slots, its own number, its right branch.
 pub walked-open : {g : Region} {at : ℕ → ℕ → ℤ} {left right : List ℕ} {p : ℕ} {lefts rights : List Box} (b : Box) {list first next last : List ℕ}

@@ -16,7 +16,7 @@ use Rattle.descent.specs.Points.{point-told}
 use Rattle.descent.specs.Slots.{ownOf, lent-length}
 use Rattle.descent.specs.Standing.{own-point}
 use Rattle.descent.specs.Runs.{Child}
-use Rattle.walk.specs.Parts.{own-held, walkable-faced, own-fits, walked-empty, walked-inside, walked-outside, walked-alone, walkable-left, walkable-right, walked-both}
+use Rattle.walk.specs.Parts.{own-held, walkable-faced, own-fits, branch-empty, branch-inside, branch-outside, branch-alone, walkable-left, walkable-right, branch-open}
 use borrow.Fn.Kinds.{In}
 use borrow.Fn.PlainCycle.{Measures, is, falls, and}
 use Rattle.walk.proofs.parts.branch.Reads as branch
@@ -94,7 +94,7 @@ module _ (t : ℕ) where
   branch-returns : branch-lts.Need-returns branch-calls branch-at branch.Post
   branch-returns c =
       let a = c .before .before .before .args in
-      walked-empty (a .k) (a .points .now) (a .order .now) (facesOf (a .normals .now) (a .offsets .now)) (a .run .start) (a .run .length) _ _ _ _ _ (c .if1 .taken)
+      branch-empty (a .k) (a .points .now) (a .order .now) (facesOf (a .normals .now) (a .offsets .now)) (a .run .start) (a .run .length) _ _ _ _ _ (c .if1 .taken)
 
   branch-judge-requires : branch-lts.Need-judge-requires branch-calls branch-at branch.Post
   branch-judge-requires c κs =
@@ -130,7 +130,7 @@ module _ (t : ℕ) where
   branch-returns-2 : branch-lts.Need-returns-2 branch-calls branch-at branch.Post
   branch-returns-2 c =
       let below = rw (c .before .before .before .before .before .enum-told .given .1) at (c .before .before .before .before .before .before .before .judge .ensures) in
-      walked-outside (c .before .before .before .before .before .before .before .before .before .before .before .before .pre .1) (judged-below below) (c .before .before .copy-outside .ensures)
+      branch-outside (c .before .before .before .before .before .before .before .before .before .before .before .before .pre .1) (judged-below below) (c .before .before .copy-outside .ensures)
 
   branch-same-length : branch-lts.Need-same-length branch-calls branch-at branch.Post
   branch-same-length c = branch-returns-2 c .listed .filled .size
@@ -163,7 +163,7 @@ module _ (t : ℕ) where
   branch-returns-3 : branch-lts.Need-returns-3 branch-calls branch-at branch.Post
   branch-returns-3 c =
       let above = rw (c .before .before .before .before .before .before .enum-told2 .given .1) at (c .before .before .before .before .before .before .before .before .judge .ensures) in
-      walked-inside (c .before .before .before .before .before .before .before .before .before .before .before .before .before .pre .1) (above .all) (c .before .before .before .copy-inside .ensures)
+      branch-inside (c .before .before .before .before .before .before .before .before .before .before .before .before .before .pre .1) (above .all) (c .before .before .before .copy-inside .ensures)
 
   branch-same-length-2 : branch-lts.Need-same-length-2 branch-calls branch-at branch.Post
   branch-same-length-2 c = branch-returns-3 c .listed .filled .size
@@ -267,7 +267,7 @@ module _ (t : ℕ) where
   node-returns : node-lts.Need-returns node-calls node-at node.Post
   node-returns c =
       let s = c .before .before .before .before .before .before .before .before .before .before .before .before .before .before .pre .1 in
-      walked-alone (s .0) (s .1 .0) (c .before .before .before .before .if1 .taken) (s .1 .1) (rw (told (c .before .before .before .before .before .before .before)) at (c .before .before .place .ensures))
+      branch-alone (s .0) (s .1 .0) (omega (arith, c .before .before .before .before .if1 .taken)) (s .1 .1) (rw (told (c .before .before .before .before .before .before .before)) at (c .before .before .place .ensures))
 
   node-same-length : node-lts.Need-same-length node-calls node-at node.Post
   node-same-length c = node-returns c .listed .filled .size
@@ -323,7 +323,7 @@ module _ (t : ℕ) where
       let l = left-is (c .before .before .before .before .before .before .before .before .before .before .before .before .before) in
       let r = right-is (c .before .before .before .before .before .before .before .before .before .before .before .before) in
       let own = rw (told (c .before .before .before .before .before .before .before .before .before .before .before .before .before .before .before .before .before .before .before)) at (c .before .before .before .before .before .before .place2 .ensures) in
-      walked-both (s .pre .1 .0) (s .pre .1 .1 .0) l (c .before .before .before .before .before .before .before .before .before .before .branch .ensures) own r (s .pre .1 .1 .1) (c .before .before .branch2 .ensures)
+      branch-open (s .pre .1 .0) (s .pre .1 .1 .0) l (c .before .before .before .before .before .before .before .before .before .before .branch .ensures) own r (s .pre .1 .1 .1) (c .before .before .branch2 .ensures)
 
   node-same-length-2 : node-lts.Need-same-length-2 node-calls node-at node.Post
   node-same-length-2 c = node-returns-2 c .listed .filled .size
