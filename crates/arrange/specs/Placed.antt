@@ -33,7 +33,7 @@ keyed-at {run = run} w i h = record {
   m = w .m;
   tested = w .tested;
   dimension = w .dimension;
-  number = ltb-true (getD run i 0) (w .m) (every-at (below (w .m)) 0 run (w .numbers) i h);
+  belongs = every-at (below (w .m)) 0 run (w .numbers) i h;
 }
 
 -- The number of a key.
@@ -83,7 +83,7 @@ module _ {k : ℕ} {points : List ℤ} {s : ℕ} {xs : List ℕ} (w : KeyedRun k
         let v : ℕ = getD zs i 0 in
         let p = and-true (eqb v (key (numberOf v))) (every-at isKey 0 zs (same-every isKey c keys) i h) in (
           eqb-true v (key (numberOf v)) (p .0),
-          record { m = w .m; tested = w .tested; dimension = w .dimension; number = ltb-true (numberOf v) (w .m) (p .1) },
+          record { m = w .m; tested = w .tested; dimension = w .dimension; belongs = p .1 },
         )
 
     -- What is less as a key comes before as a number.

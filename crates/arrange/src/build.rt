@@ -16,19 +16,19 @@ use crate::key::write_numbers;
 use terms::axis::next_axis;
 
 // Puts the number that belongs at the place m of the run there, by the keys on dimension s.
-fn place_node(points: &[i32], k: usize, s: usize, run: &mut [u32], m: usize)
+fn place_node(k: usize, points: &[i32], s: usize, run: &mut [u32], m: usize)
     requires { ⌜ Arrangeable k (now points) s (now run) ⌝ }
     requires { ⌜ m < length (now run) ⌝ }
     ensures { λ _. ⌜ Placed (coord k (now (points .entry))) s (now (run .entry)) (now (run .exit)) m ⌝ }
 {
-    write_keys(points, k, s, run);
+    write_keys(k, points, s, run);
     choose(run, m);
     write_numbers(run);
 }
 
 // Arranges the run as the branch of a node that splits on dimension s: the node is put in the middle, and then each half is
 // arranged as a part of the run. Halves of one slot or none are arranged already.
-fn arrange(points: &[i32], k: usize, s: usize, run: &mut [u32])
+fn arrange(k: usize, points: &[i32], s: usize, run: &mut [u32])
     requires { ⌜ Arrangeable k (now points) s (now run) ⌝ }
     ensures { λ _. ⌜ Arranged k (coord k (now (points .entry))) s (now (run .entry)) (now (run .exit)) ⌝ }
 {
@@ -38,13 +38,13 @@ fn arrange(points: &[i32], k: usize, s: usize, run: &mut [u32])
     }
     let m = c / 2;
     let r = m + 1;
-    place_node(points, k, s, run, m);
+    place_node(k, points, s, run, m);
     if c < 4 {
         return;
     }
     let next = next_axis(k, s);
-    arrange(points, k, next, &mut run[..m]);
-    arrange(points, k, next, &mut run[r..]);
+    arrange(k, points, next, &mut run[..m]);
+    arrange(k, points, next, &mut run[r..]);
 }
 
 // Fills the order, which has a slot for each, with the numbers below m that belong, rising.
@@ -70,5 +70,5 @@ pub fn build(k: usize, m: usize, points: &[i32], order: &mut [u32])
     ensures { λ _. ⌜ isTree k (coord k (now (points .entry))) (below m) m (now (order .exit)) ≡ true ⌝ }
 {
     fill(m, order);
-    arrange(points, k, 0, order);
+    arrange(k, points, 0, order);
 }

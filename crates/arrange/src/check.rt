@@ -38,9 +38,9 @@ fn three_allowed(
         }
         let l = least[d];
         let e = end[d];
-        let x = key(points, k, d, p);
-        let y = key(points, k, d, q);
-        let z = key(points, k, d, r);
+        let x = key(k, points, d, p);
+        let y = key(k, points, d, q);
+        let z = key(k, points, d, r);
         if !(((l <= x) & (x < e)) & ((l <= y) & (y < e)) & ((l <= z) & (z < e))) {
             return false;
         }
@@ -83,7 +83,7 @@ fn few_slots(
     if !three_allowed(k, m, points, least, end, p, q, q) {
         return false;
     }
-    key(points, k, s, q) < key(points, k, s, p)
+    key(k, points, s, q) < key(k, points, s, p)
 }
 
 // The same of a run of three slots: its node and the two slots that are its branches.
@@ -106,8 +106,8 @@ fn three_slots(
     if !three_allowed(k, m, points, least, end, p, q, r) {
         return false;
     }
-    let x = key(points, k, s, p);
-    (key(points, k, s, q) < x) & (x < key(points, k, s, r))
+    let x = key(k, points, s, p);
+    (key(k, points, s, q) < x) & (x < key(k, points, s, r))
 }
 
 // The same of any run. Three slots are looked for first: on a full shelf all the smallest runs have three.
@@ -153,7 +153,7 @@ fn node(
     if !allowed(k, m, points, least, end, p) {
         return false;
     }
-    let x = key(points, k, s, p);
+    let x = key(k, points, s, p);
     let n = next_axis(k, s);
     let mut left_end = end;
     left_end[s] = x;

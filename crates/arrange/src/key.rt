@@ -5,7 +5,7 @@ ghost use Rattle.arrange.specs.Key.{Keyed, keyOf};
 ghost use Rattle.arrange.specs.Placed.{KeyedRun, numberOf};
 
 // The key of number p on dimension s: coordinate s, lifted above 0, and then the number itself, so that no two numbers have one key.
-pub fn key(points: &[i32], k: usize, s: usize, p: u32) -> u32
+pub fn key(k: usize, points: &[i32], s: usize, p: u32) -> u32
     requires { ⌜ Keyed k (now points) s p ⌝ }
     ensures { λ r. ⌜ r ≡ keyOf k (now (points .entry)) s p ⌝ }
 {
@@ -15,13 +15,13 @@ pub fn key(points: &[i32], k: usize, s: usize, p: u32) -> u32
 }
 
 // Writes each number's key on dimension s in its place.
-pub fn write_keys(points: &[i32], k: usize, s: usize, run: &mut [u32])
+pub fn write_keys(k: usize, points: &[i32], s: usize, run: &mut [u32])
     requires { ⌜ KeyedRun k (now points) s (now run) ⌝ }
     ensures { λ _. ⌜ now (run .exit) ≡ map (keyOf k (now (points .entry)) s) (now (run .entry)) ⌝ }
 {
     let mut i: usize = 0;
     while i < run.len() {
-        run[i] = key(points, k, s, run[i]);
+        run[i] = key(k, points, s, run[i]);
         i += 1;
     }
 }

@@ -1,16 +1,16 @@
 -- The points that are lent, and one of them read into a value of four places.
 use mathlib.Core.Path.{_≡_, ap, fun-ext, _∙_}
-use mathlib.Core.Bool.{Bool}
+use mathlib.Core.Bool.{Bool, true}
 use mathlib.Core.List.{List}
 use Prim.Native.Nat.{ℕ, suc, _+_, _*_, _≤_, _<_}
 use native.Mathlib.Nat.{mul-le-mul}
 use native.Mathlib.Omega.{arith}
 use lib.ListN.{length, getD}
 use lib.IntN.{ℤ, pos}
-use borrow.Author.Tests.{lt-ltb}
 use Rattle.terms.specs.Lent.{Stock}
-use Rattle.terms.specs.Points.{lone, coord}
+use Rattle.terms.specs.Points.{lone, coord, belongsTo}
 use Rattle.terms.specs.Region.{Region}
+use Rattle.theory.specs.EachNumberOnce.{stock-under}
 use Rattle.theory.specs.Tested.{Coordinates, TestedPoints}
 use Rattle.theory.specs.PointsAlike.{SamePoint, same-point-sym, in-same-point, inside-same-point}
 use Rattle.region.specs.Live.{InsideByLive}
@@ -21,12 +21,12 @@ pub record HasPoint (k : ℕ) (points : List ℤ) (p : ℕ) : Type 0 where
   pub room : p * k + k ≤ length points
   pub ranges : Coordinates k (coord k points p)
 
--- Each number of the tested points has its point.
-pub has-point : {s : Stock} {p : ℕ} → TestedPoints s → p < s .n → HasPoint (s .k) (s .points) p
-has-point {s} {p} t l =
-    let more : suc p * s .k ≤ s .n * s .k = mul-le-mul l (omega arith) in
+-- Each number that belongs to a tested stock has its point.
+pub has-point : {s : Stock} {p : ℕ} → TestedPoints s → belongsTo s p ≡ true → HasPoint (s .k) (s .points) p
+has-point {s} {p} t e =
+    let more : suc p * s .k ≤ s .n * s .k = mul-le-mul (stock-under s p e) (omega arith) in
     let size : length (s .points) ≡ s .k * s .n = t .size in
-    record { few = t .few; room = omega arith; ranges = t .each p (lt-ltb p (s .n) l) }
+    record { few = t .few; room = omega arith; ranges = t .each p e }
 
 -- A point that is lent alone is point 0.
 pub lone-coord : (k : ℕ) (point : List ℤ) → coord k point 0 ≡ lone point

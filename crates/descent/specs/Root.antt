@@ -15,7 +15,7 @@ use Rattle.terms.specs.Tree.{isTree, eachOnce}
 use Rattle.terms.specs.Box.{Box, rootBox}
 use Rattle.theory.specs.Flags.{and-true}
 use Rattle.theory.specs.Counting.{same-length}
-use Rattle.theory.specs.EachNumberOnce.{each-once, each-members, below-under}
+use Rattle.theory.specs.EachNumberOnce.{each-once, each-members, stock-under}
 use Rattle.theory.specs.Boxes.{Held, Alike, alike-sym, alike-trans}
 use Rattle.theory.specs.RootBoxOfSame.{root-of-same, root-between}
 use Rattle.theory.specs.BoxLaws.{held-root, held-alike}
@@ -45,14 +45,14 @@ pub shelf-rooted : {s : Stock} {order : List ℕ} {b : Box} → TestedPoints s �
 unfolding isTree
 shelf-rooted {s} {order} tested t box =
     let p = and-true (eachOnce (belongsTo s) (s .n) order) t in
-    let under = below-under (s .n) in
+    let under = stock-under s in
     let once = each-once (belongsTo s) (s .n) (p .0) in
     let held = each-members (belongsTo s) (s .n) under (p .0) in
     record {
       standing = record {
         fits = omega arith;
         splits = tested .some;
-        known = record { each = λ i l. has-point tested (under (getD order i 0) (once .belong i l)) };
+        known = record { each = λ i l. has-point tested (once .belong i l) };
         fuel = length order;
         tree = rw (take-length order) (p .1);
       };

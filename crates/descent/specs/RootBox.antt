@@ -11,6 +11,7 @@ use lib.Seq.{getD-set-same}
 use lib.IntN.{ℤ, pos, negsuc}
 use lib.Signed.{_≤ℤ_}
 use borrow.Author.Count.{below-more}
+use borrow.Author.Tests.{lt-ltb}
 use Rattle.whole.specs.Order.{lesser, greater}
 use Rattle.whole.specs.Choices.{atLeast, Choice, least-choice, greatest-choice}
 use Rattle.terms.specs.Tests.{rising}
@@ -120,7 +121,7 @@ module _ {k m : ℕ} {points : List ℤ} (some : 0 < m) (t : TestedPoints (stock
       before : (p : ℕ) → p < m → le (lone row d) (coord k points p d)
       before p n =
           let place : (p * k + d) % k ≡ d = mul-add-mod-self-right p k d ∙ mod-eq-of-lt l in
-          rw place at (r .before (p * k + d) (omega (arith, has-point t n .room)))
+          rw place at (r .before (p * k + d) (omega (arith, has-point t (lt-ltb p m n) .room)))
 
       after : (u : ℕ) → u < length points → u % k ≡ d → le bound (lone points u)
       after u n e =
@@ -155,7 +156,7 @@ module _ {k m : ℕ} {points : List ℤ} (some : 0 < m) (t : TestedPoints (stock
   }
     where
       range : (d : ℕ) → d < k → (p : ℕ) → p < m → Between (negsuc 32767) (coord k points p d) (pos 32767)
-      range d l p n = has-point t n .ranges .ranges d l
+      range d l p n = has-point t (lt-ltb p m n) .ranges .ranges d l
 
 -- All numbers below m belong.
 pub dealt-all : {k m : ℕ} {points low high : List ℤ} → TestedPoints (stock k m points) → Dealt k (lone points) (lone points) (length points) low high

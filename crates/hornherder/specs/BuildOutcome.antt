@@ -12,7 +12,7 @@ use Rattle.terms.specs.Points.{pointOf, belongsTo, slotsOf}
 use Rattle.terms.specs.Tree.{eachOnce, isTree}
 use Rattle.terms.specs.BuildCall.{buildRefusals, buildAnswer, Built}
 use Rattle.theory.specs.Flags.{and-true}
-use Rattle.theory.specs.EachNumberOnce.{shelf-length}
+use Rattle.theory.specs.EachNumberOnce.{stock-slots}
 use Rattle.theory.specs.BuildCall.{BuildPassed, build-passed}
 use Rattle.hornherder.specs.First.{First}
 
@@ -33,7 +33,7 @@ module _ (s : Stock) (o : Order) {c : ℕ} (f : First (buildRefusals s o) c) whe
   unfolding isTree
   build-done z after t =
       let later : List ℕ = drop (slotsOf s) (o .slots) in
-      let slots : length after ≡ slotsOf s = shelf-length (s .n) after (and-true (eachOnce (belongsTo s) (s .n) after) t .0) in
+      let slots : length after ≡ slotsOf s = stock-slots s after (and-true (eachOnce (belongsTo s) (s .n) after) t .0) in
       let room : slotsOf s ≤ length (o .slots) = build-tested z .room in
       record {
         answered = sym z ∙ build-coded;

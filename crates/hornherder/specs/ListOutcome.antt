@@ -18,6 +18,7 @@ use Rattle.theory.specs.ListCall.{ListPassed, list-passed}
 use Rattle.walk.specs.Shelf.{ShelfWalked}
 use Rattle.hornherder.specs.First.{First}
 
+-- No count of the walk is over the number of slots.
 pub record AtMost (n i o u : ℕ) : Type 0 where
   pub inside : i ≤ n
   pub outside : o ≤ n

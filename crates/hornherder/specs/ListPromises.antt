@@ -14,21 +14,17 @@ use Rattle.terms.specs.Tree.{eachOnce, shelfRun}
 use Rattle.terms.specs.Region.{region}
 use Rattle.terms.specs.Bound.{S, isSquare}
 use Rattle.terms.specs.ListCall.{listRefusals, listCode, listAnswer, ListedAs}
-use Rattle.theory.specs.FirstRefusal.{FirstHeld, if-code, if-refused}
+use Rattle.theory.specs.FirstRefusal.{FirstHeld, if-refused}
 use Rattle.theory.specs.FirstRefusalIsLowest.{Lowest}
 use Rattle.theory.specs.InsideAndOutside.{shelf-lists-length, shelf-places-each}
 use Rattle.theory.specs.FaceLentAlone.{faceAlone}
 use Rattle.theory.specs.VisitsOfTheListCall.{list-visits-le-faces, list-visits-le-S}
-use Rattle.theory.specs.ListCall.{list-first, list-lowest, list-passed, list-refused, list-front, list-later, list-answer-reads, list-after-reads}
+use Rattle.theory.specs.ListCall.{list-answer-code, list-first, list-lowest, list-passed, list-refused, list-front, list-later, list-answer-reads, list-after-reads}
 
 module _ (s : Stock) (o : Order) (f : Faces) (list : List ℕ) where
-  answer-code : listAnswer s o f list .code ≡ listCode s o f list
-  unfolding listAnswer
-  answer-code = if-code (λ (r : Listing). r .code) (listCode s o f list) _ _ refl refl
-
   module _ {a : Listing} {x : List ℕ} (e : ListedAs s o f list a x) where
     code : a .code ≡ listCode s o f list
-    code = ap (λ (r : Listing). r .code) (e .answered) ∙ answer-code
+    code = ap (λ (r : Listing). r .code) (e .answered) ∙ list-answer-code s o f list
 
     -- Two outcomes that satisfy the contract are equal.
     pub list-once : {b : Listing} {y : List ℕ} → ListedAs s o f list b y → (a ≡ b) × (x ≡ y)

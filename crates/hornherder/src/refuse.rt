@@ -5,7 +5,7 @@ use crate::ranges::all_within_wide;
 use arrange::check::check;
 ghost use Prim.Native.Nat.{_≤_};
 ghost use lib.ListN.{length};
-ghost use Rattle.terms.specs.Lent.{stock, orderOf, faces};
+ghost use Rattle.terms.specs.Lent.{stock, orderOf, faces, facesOf};
 ghost use Rattle.terms.specs.Refusals.{
   dimensionRefusals,
   sizeRefusals,
@@ -101,8 +101,8 @@ fn face_length_refusal(k: usize, h: usize, normals: &[i32], offsets: &[i64]) -> 
 }
 
 // 8 where a component or an offset is out of range.
-fn face_range_refusal(h: usize, normals: &[i32], offsets: &[i64]) -> u32
-    ensures { λ r. ⌜ First (faceRangeRefusals (faces h (now (normals .entry)) (now (offsets .entry)))) r ⌝ }
+fn face_range_refusal(normals: &[i32], offsets: &[i64]) -> u32
+    ensures { λ r. ⌜ First (faceRangeRefusals (facesOf (now (normals .entry)) (now (offsets .entry)))) r ⌝ }
 {
     if !all_within(normals, -32767, 32767) {
         return 8;
@@ -153,5 +153,5 @@ pub fn face_refusal(k: usize, h: usize, normals: &[i32], offsets: &[i64]) -> u32
     if length != 0 {
         return length;
     }
-    face_range_refusal(h, normals, offsets)
+    face_range_refusal(normals, offsets)
 }

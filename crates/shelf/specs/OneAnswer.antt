@@ -8,30 +8,23 @@ use lib.ListN.{length, take}
 use lib.Seq.{length-take-le}
 use lib.Dec.{ltb}
 use borrow.Author.Tests.{ltb-true}
-use Rattle.terms.specs.declared.Listing.{Listing}
 use Rattle.terms.specs.Lent.{Stock, Order, Faces}
 use Rattle.terms.specs.Points.{pointOf, slotsOf}
 use Rattle.terms.specs.Tree.{shelfRun}
 use Rattle.terms.specs.Region.{region}
 use Rattle.terms.specs.Lists.{places}
 use Rattle.terms.specs.BuildCall.{Built}
-use Rattle.terms.specs.ListCall.{listCode, listAnswer, listAfter}
+use Rattle.terms.specs.ListCall.{listAnswer, listAfter}
 use Rattle.theory.specs.Flags.{same-test}
 use Rattle.theory.specs.UniqueOrder.{one-shelf}
-use Rattle.theory.specs.FirstRefusal.{if-code}
 use Rattle.theory.specs.BuildCall.{build-reads}
-use Rattle.theory.specs.ListCall.{list-front, list-answer-reads}
+use Rattle.theory.specs.ListCall.{list-answer-code, list-front, list-answer-reads}
 use Rattle.text.specs.OneToOne.{says-one}
 use Rattle.shelf.specs.Answer.{Listed, list-refused, list-done, Shelved, build-refused, build-done, Answer, not-the-text, the-text, Writes}
 
 -- Buffers with room for n numbers look alike to the length test.
 rooms : {n : ℕ} (xs ys : List ℕ) → n ≤ length xs → n ≤ length ys → ltb (length xs) n ≡ ltb (length ys) n
 rooms {n} xs ys a b = same-test (λ t. absurd (omega (arith, ltb-true (length xs) n t))) (λ t. absurd (omega (arith, ltb-true (length ys) n t)))
-
--- The list call's answer has the number that it returns.
-code-is : (s : Stock) (o : Order) (f : Faces) (list : List ℕ) → listAnswer s o f list .code ≡ listCode s o f list
-unfolding listAnswer
-code-is s o f list = if-code (λ (r : Listing). r .code) (listCode s o f list) _ _ refl refl
 
 -- Buffers with room for n numbers get one number from the build call.
 number-one : {s : Stock} {o q after later : Order} {c d : ℕ} → slotsOf s ≤ length (o .slots) → slotsOf s ≤ length (q .slots) → Built s o c after
@@ -48,7 +41,7 @@ module _ {s : Stock} {f : Faces} where
 
       first : (o : Order) (l : List ℕ) → listAnswer s o f l .code ≡ 0
           → take (slotsOf s) (listAfter s o f l) ≡ places (region (s .k) f) (pointOf s) (shelfRun s o)
-      first o l z = list-front s o f l (sym (code-is s o f l) ∙ z)
+      first o l z = list-front s o f l (sym (list-answer-code s o f l) ∙ z)
 
       go : Listed s o f p → Listed s u f q → p ≡ q
       go (list-refused l a r x) (list-refused m b t y) = x ∙ rw (same l m a b) (sym y)

@@ -36,6 +36,7 @@ pub record Shelf : Type 0 where
   pub lent : Stock
   pub arranged : Order
 
+-- The shelf of these arguments.
 abbrev pub shelf : ℕ → ℕ → List ℤ → List ℕ → Shelf
 shelf k n points slots = record { lent = stock k n points; arranged = orderOf slots }
 

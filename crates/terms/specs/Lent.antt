@@ -20,13 +20,15 @@ pub record Faces : Type 0 where
   pub normals : List ℤ
   pub offsets : List ℤ
 
--- The three as a call is handed them.
+-- The stock as a call is handed it.
 abbrev pub stock : ℕ → ℕ → List ℤ → Stock
 stock k n points = record { k = k; n = n; points = points }
 
+-- The order as a call is handed it.
 abbrev pub orderOf : List ℕ → Order
 orderOf slots = record { slots = slots }
 
+-- The faces as a call is handed them.
 abbrev pub faces : ℕ → List ℤ → List ℤ → Faces
 faces h normals offsets = record { h = h; normals = normals; offsets = offsets }
 

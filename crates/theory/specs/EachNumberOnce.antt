@@ -9,7 +9,8 @@ use lib.ListN.{length, getD}
 use lib.Dec.{eqb, ltb}
 use borrow.Author.Tests.{eqb-true, eq-eqb, ltb-true, lt-ltb}
 use Rattle.terms.specs.Tests.{bit, count, every, rising}
-use Rattle.terms.specs.Points.{below}
+use Rattle.terms.specs.Lent.{Stock}
+use Rattle.terms.specs.Points.{below, belongsTo, slotsOf}
 use Rattle.terms.specs.Tree.{members, eachOnce}
 use Rattle.theory.specs.Flags.{and-true, true-and}
 use Rattle.theory.specs.Counting.{Same, Distinct, every-at, at-every, bit-le, same-every, same-length, same-sym, same-trans, same-distinct}
@@ -126,3 +127,12 @@ pub distinct-shelf : (n : ℕ) {run : List ℕ} → length run ≡ n → ((i : �
 distinct-shelf n {run} size low d =
     distinct-each (below n) n (below-under n) (size ∙ sym (ap length (members-shelf n) ∙ length-rising 0 n))
     (at-every (below n) 0 run (λ i l. lt-ltb (getD run i 0) n (low i l))) d
+
+-- ---- the shelf of a stock
+-- What belongs to a stock is below its n.
+pub stock-under : (s : Stock) → BelongBelow (belongsTo s) (s .n)
+stock-under s = below-under (s .n)
+
+-- A run that holds each number of the stock once has as many slots as the stock's shelf.
+pub stock-slots : (s : Stock) (run : List ℕ) → eachOnce (belongsTo s) (s .n) run ≡ true → length run ≡ slotsOf s
+stock-slots s run e = shelf-length (s .n) run e

@@ -1,29 +1,30 @@
 -- A face lent alone: its components and its offset cut out of the lent lists. As a region these are the face taken alone, so its visits are the
 -- same; and where the call on all faces is done, the call on the one is.
 use mathlib.Core.Path.{_≡_, refl, sym, ap, _∙_}
-use mathlib.Core.Bool.{Bool, true}
-use mathlib.Core.List.{List, [], _∷_}
+use mathlib.Core.Bool.{Bool, true, not}
+use mathlib.Core.List.{List, [], _∷_, _++_}
 use Prim.Native.Nat.{ℕ, _+_, _*_, _≤_, _<_}
 use native.Mathlib.Nat.{mul-le-mul-right, suc-mul}
 use native.Mathlib.Omega.{arith}
 use lib.ListN.{length, getD, take, drop, length-take, length-drop}
 use lib.Seq.{getD-take, getD-drop, length-take-le}
 use lib.IntN.{ℤ, pos, _*ℤ_}
-use lib.Dec.{eqb}
-use borrow.Author.Tests.{eqb-true, eq-eqb}
+use borrow.Author.Tests.{eq-eqb}
 use Rattle.whole.specs.IndexedSum.{sum-same}
 use Rattle.terms.specs.Tests.{every, count, allTo, anyTo}
 use Rattle.terms.specs.Lent.{Stock, Order, Faces, faces}
 use Rattle.terms.specs.Box.{Box, rootBox, shelfBoxes}
 use Rattle.terms.specs.Region.{region, alone, above, aboveAt, bySign, isSettled, isOpen, isComponent, isOffset}
 use Rattle.terms.specs.Visits.{visits}
-use Rattle.terms.specs.Refusals.{firstOf}
+use Rattle.terms.specs.Refusals.{faceCountRefusals, faceLengthRefusals, faceRangeRefusals, faceRefusals}
 use Rattle.terms.specs.ListCall.{listCode}
 use Rattle.theory.specs.Flags.{not-false}
 use Rattle.theory.specs.Counting.{every-at, at-every, count-same}
 use Rattle.theory.specs.AboveIsUpward.{above-same-offset, above-alone}
 use Rattle.theory.specs.BoxFuel.{visits-count}
-use Rattle.theory.specs.ListCall.{list-first}
+use Rattle.theory.specs.FirstRefusal.{Passed, passed-parts, passed-next, passed-none}
+use Rattle.theory.specs.RefusalsPassed.{faces-passed}
+use Rattle.theory.specs.ListCall.{list-groups, groups-listed}
 
 -- Face i lent alone: its components and its offset.
 abbrev pub faceAlone : ℕ → Faces → ℕ → Faces
@@ -66,19 +67,29 @@ every-part z test a c xs e = at-every test z (take c (drop a xs))
     let room : a + i < length xs = omega (arith, length-take c (drop a xs), length-drop a xs) in
     rw (getD-take c (drop a xs) i z m, getD-drop a xs i z) (every-at test z xs e (a + i) room))
 
-module _ (s : Stock) (o : Order) (f : Faces) (list : List ℕ) where
-  -- Where the list call on all faces is done, so is the one on a face alone.
-  pub lent-done : listCode s o f list ≡ 0 → (i : ℕ) → i < f .h → listCode s o (faceAlone (s .k) f i) list ≡ 0
-  unfolding listCode firstOf every
-  lent-done e i l =
-      let k : ℕ = s .k in
-      let t = list-first s o f list .done e .fails in
-      let size : length (f .normals) ≡ k * f .h = eqb-true (length (f .normals)) (k * f .h) (not-false (eqb (length (f .normals)) (k * f .h)) (t 7)) in
-      let count : length (f .offsets) ≡ f .h = eqb-true (length (f .offsets)) (f .h) (not-false (eqb (length (f .offsets)) (f .h)) (t 8)) in
-      let room : k ≤ length (drop (i * k) (f .normals)) = omega (arith, length-drop (i * k) (f .normals), mul-le-mul-right k l, suc-mul i k) in
-      let long : length (faceAlone k f i .normals) ≡ k * 1 = omega (arith, length-take-le k (drop (i * k) (f .normals)) room) in
-      let components : every isComponent (faceAlone k f i .normals) ≡ true =
-      every-part (pos 0) isComponent (i * k) k (f .normals) (not-false (every isComponent (f .normals)) (t 9)) in
-      let offset : isOffset (getD (f .offsets) i (pos 0)) ≡ true =
-      every-at isOffset (pos 0) (f .offsets) (not-false (every isOffset (f .offsets)) (t 10)) i (omega arith) in
-      rw (t 0, t 1, t 2, t 3, t 4, t 5, eq-eqb _ _ long, components, offset, t 11)
+-- Faces that were passed are passed one by one.
+face-alone-passed : (k : ℕ) (f : Faces) → Passed (faceRefusals k f) → (i : ℕ) → i < f .h → Passed (faceRefusals k (faceAlone k f i))
+unfolding every
+face-alone-passed k f w i l =
+    let t = faces-passed k f w in
+    let ranges = passed-parts (faceLengthRefusals k f) (faceRangeRefusals f) (passed-parts (faceCountRefusals (f .h)) (faceLengthRefusals k f ++ faceRangeRefusals f) w .1) .1 in
+    let size = t .normals-size in
+    let room : k ≤ length (drop (i * k) (f .normals)) = omega (arith, length-drop (i * k) (f .normals), mul-le-mul-right k l, suc-mul i k) in
+    let long : length (faceAlone k f i .normals) ≡ k * 1 = omega (arith, length-take-le k (drop (i * k) (f .normals)) room) in
+    let components = every-part (pos 0) isComponent (i * k) k (f .normals) (not-false (every isComponent (f .normals)) (ranges .fails 0)) in
+    let offset = every-at isOffset (pos 0) (f .offsets) (not-false (every isOffset (f .offsets)) (ranges .fails 1)) i (omega (arith, t .offsets-size)) in
+    passed-next refl (passed-next (ap not (eq-eqb _ _ long)) (passed-next refl (passed-next (ap not components) (passed-next (rw offset) passed-none))))
+
+-- Where the list call on all faces is done, so is the one on a face alone.
+pub lent-done : (s : Stock) (o : Order) (f : Faces) (list : List ℕ) → listCode s o f list ≡ 0 → (i : ℕ) → i < f .h
+    → listCode s o (faceAlone (s .k) f i) list ≡ 0
+lent-done s o f list e i l =
+    let w = list-groups s o f list e in
+    groups-listed s o (faceAlone (s .k) f i) list (record {
+      shape = w .shape;
+      order-room = w .order-room;
+      list-room = w .list-room;
+      coordinates = w .coordinates;
+      faces = face-alone-passed (s .k) f (w .faces) i l;
+      tree = w .tree;
+    })

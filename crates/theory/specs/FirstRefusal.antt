@@ -59,6 +59,25 @@ passed-parts (x ∷ xs) ys w =
     let ih : Passed xs × Passed ys = passed-parts xs ys (record { fails = λ i. w .fails (suc i) }) in
     (record { fails = λ i. elim i [ zero ↦ w .fails 0 | suc i ↦ ih .0 .fails i ] }, ih .1)
 
+pub passed-join : (xs ys : List Refusal) → Passed xs → Passed ys → Passed (xs ++ ys)
+passed-join [] ys v w = w
+passed-join (x ∷ xs) ys v w =
+    let ih : Passed (xs ++ ys) = passed-join xs ys (record { fails = λ i. v .fails (suc i) }) w in
+    record { fails = λ i. elim i [ zero ↦ v .fails 0 | suc i ↦ ih .fails i ] }
+
+-- One test more that does not hold.
+pub passed-next : {number : ℕ} {holds : Bool} {rs : List Refusal} → holds ≡ false → Passed rs → Passed (record { number = number; holds = holds } ∷ rs)
+passed-next e w = record { fails = λ i. elim i [ zero ↦ e | suc i ↦ w .fails i ] }
+
+pub passed-none : Passed []
+passed-none = record { fails = λ i. refl }
+
+-- Where no test holds the answer is 0.
+pub first-zero : (rs : List Refusal) → Passed rs → firstOf rs ≡ 0
+unfolding firstOf
+first-zero [] w = refl
+first-zero (r ∷ rs) w = rw (w .fails 0) (first-zero rs (record { fails = λ i. w .fails (suc i) }))
+
 -- A list that was passed leaves the answer to what is tested after it; one that was not gives it.
 pub first-skip : (xs ys : List Refusal) → Passed xs → firstOf (xs ++ ys) ≡ firstOf ys
 unfolding firstOf

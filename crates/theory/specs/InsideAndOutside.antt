@@ -17,7 +17,7 @@ use Rattle.terms.specs.Region.{Region}
 use Rattle.terms.specs.Lists.{insides, outsides, places}
 use Rattle.theory.specs.Flags.{and-true}
 use Rattle.theory.specs.Counting.{Same, count-append, same-length}
-use Rattle.theory.specs.EachNumberOnce.{same-each, shelf-length}
+use Rattle.theory.specs.EachNumberOnce.{same-each, stock-slots}
 
 -- ---- turned round
 count-reverseAux : {A : Type 0} (test : A → Bool) (xs ys : List A) → count test (reverseAux xs ys) ≡ count test xs + count test ys
@@ -100,7 +100,7 @@ module _ (s : Stock) (o : Order) (shelf : isShelf s o ≡ true) (g : Region) whe
   each-slot = and-true (eachOnce (belongsTo s) (s .n) (shelfRun s o)) shelf .0
 
   pub shelf-lists-length : length (insides g (pointOf s) (shelfRun s o)) + length (outsides g (pointOf s) (shelfRun s o)) ≡ slotsOf s
-  shelf-lists-length = lists-length g (pointOf s) (shelfRun s o) ∙ shelf-length (s .n) (shelfRun s o) each-slot
+  shelf-lists-length = lists-length g (pointOf s) (shelfRun s o) ∙ stock-slots s (shelfRun s o) each-slot
 
   pub shelf-places-each : eachOnce (belongsTo s) (s .n) (places g (pointOf s) (shelfRun s o)) ≡ true
   shelf-places-each = places-each g (pointOf s) (shelfRun s o) (belongsTo s) (s .n) each-slot

@@ -9,6 +9,7 @@ use native.Mathlib.Omega.{arith}
 use lib.ListN.{length, take, drop, length-append, length-drop}
 use lib.Seq.{take-at, drop-at, length-take-le}
 use lib.Dec.{ltb}
+use Rattle.terms.specs.declared.Listing.{Listing}
 use Rattle.terms.specs.Lent.{Stock, Order, Faces}
 use Rattle.terms.specs.Points.{pointOf, slotsOf}
 use Rattle.terms.specs.Tree.{shelfRun, isShelf}
@@ -18,7 +19,7 @@ use Rattle.terms.specs.Refusals.{Refusal, stockRefusals, roomRefusals, coordina
 use Rattle.terms.specs.ListCall.{listRefusals, listCode, listAnswer, listAfter}
 use Rattle.theory.specs.Tested.{TestedPoints, TestedFaces}
 use Rattle.theory.specs.InsideAndOutside.{places-length}
-use Rattle.theory.specs.FirstRefusal.{FirstHeld, noZero, first-held, passed-parts, if-refused}
+use Rattle.theory.specs.FirstRefusal.{Passed, FirstHeld, noZero, first-held, first-zero, passed-parts, passed-join, if-refused, if-code}
 use Rattle.theory.specs.FirstRefusalIsLowest.{Lowest, risesFrom, first-lowest}
 use Rattle.theory.specs.RefusalsPassed.{stock-passed, room-passed, faces-passed, tree-passed}
 use Rattle.theory.specs.CheckCall.{room-same}
@@ -42,27 +43,65 @@ module _ (s : Stock) (o : Order) (f : Faces) (list : List ℕ) where
   unfolding risesFrom listCode
   list-lowest = first-lowest 1 (listRefusals s o f list) (omega arith) refl
 
--- "List: 1 to 9."
-pub list-passed : (s : Stock) (o : Order) (f : Faces) (list : List ℕ) → listCode s o f list ≡ 0 → ListPassed s o f list
-list-passed s o f list e =
-    let P : List Refusal = stockRefusals s in
-    let O : List Refusal = roomRefusals (slotsOf s) (length (o .slots)) in
-    let L : List Refusal = roomRefusals (slotsOf s) (length list) in
-    let C : List Refusal = coordinateRefusals (s .points) in
-    let F : List Refusal = faceRefusals (s .k) f in
-    let T : List Refusal = treeRefusals s o in
-    let a = passed-parts P (O ++ L ++ C ++ F ++ T) (list-first s o f list .done e) in
-    let b = passed-parts O (L ++ C ++ F ++ T) (a .1) in
-    let c = passed-parts L (C ++ F ++ T) (b .1) in
-    let d = passed-parts C (F ++ T) (c .1) in
-    let g = passed-parts F T (d .1) in
-    record {
-      tested = stock-passed s (a .0) (d .0);
-      room = room-passed (slotsOf s) (length (o .slots)) (b .0);
-      list-room = room-passed (slotsOf s) (length list) (c .0);
-      faced = faces-passed (s .k) f (g .0);
-      shelf = tree-passed s o (g .1);
-    }
+-- The groups of the list call that say nothing of the faces, and that of the faces.
+pub record ListGroups (s : Stock) (o : Order) (f : Faces) (list : List ℕ) : Type 0 where
+  pub shape : Passed (stockRefusals s)
+  pub order-room : Passed (roomRefusals (slotsOf s) (length (o .slots)))
+  pub list-room : Passed (roomRefusals (slotsOf s) (length list))
+  pub coordinates : Passed (coordinateRefusals (s .points))
+  pub faces : Passed (faceRefusals (s .k) f)
+  pub tree : Passed (treeRefusals s o)
+
+module _ (s : Stock) (o : Order) (f : Faces) (list : List ℕ) where
+  abbrev O : List Refusal
+  O = roomRefusals (slotsOf s) (length (o .slots))
+
+  abbrev L : List Refusal
+  L = roomRefusals (slotsOf s) (length list)
+
+  abbrev C : List Refusal
+  C = coordinateRefusals (s .points)
+
+  abbrev F : List Refusal
+  F = faceRefusals (s .k) f
+
+  abbrev T : List Refusal
+  T = treeRefusals s o
+
+  -- Done, every group was passed, and where every group was passed the call is done.
+  pub list-groups : listCode s o f list ≡ 0 → ListGroups s o f list
+  list-groups e =
+      let a = passed-parts (stockRefusals s) (O ++ L ++ C ++ F ++ T) (list-first s o f list .done e) in
+      let b = passed-parts O (L ++ C ++ F ++ T) (a .1) in
+      let c = passed-parts L (C ++ F ++ T) (b .1) in
+      let d = passed-parts C (F ++ T) (c .1) in
+      let g = passed-parts F T (d .1) in
+      record { shape = a .0; order-room = b .0; list-room = c .0; coordinates = d .0; faces = g .0; tree = g .1 }
+
+  pub groups-listed : ListGroups s o f list → listCode s o f list ≡ 0
+  unfolding listCode
+  groups-listed w = first-zero (listRefusals s o f list)
+      (passed-join (stockRefusals s) (O ++ L ++ C ++ F ++ T) (w .shape)
+      (passed-join O (L ++ C ++ F ++ T) (w .order-room)
+      (passed-join L (C ++ F ++ T) (w .list-room)
+      (passed-join C (F ++ T) (w .coordinates) (passed-join F T (w .faces) (w .tree))))))
+
+  -- "List: 1 to 9."
+  pub list-passed : listCode s o f list ≡ 0 → ListPassed s o f list
+  list-passed e =
+      let w = list-groups e in
+      record {
+        tested = stock-passed s (w .shape) (w .coordinates);
+        room = room-passed (slotsOf s) (length (o .slots)) (w .order-room);
+        list-room = room-passed (slotsOf s) (length list) (w .list-room);
+        faced = faces-passed (s .k) f (w .faces);
+        shelf = tree-passed s o (w .tree);
+      }
+
+  -- The answer's number is the call's.
+  pub list-answer-code : listAnswer s o f list .code ≡ listCode s o f list
+  unfolding listAnswer
+  list-answer-code = if-code (λ (r : Listing). r .code) (listCode s o f list) _ _ refl refl
 
 module _ (s : Stock) (o q : Order) (f : Faces) (list buffer : List ℕ) (slots : shelfRun s o ≡ shelfRun s q)
     (rooms : ltb (length list) (slotsOf s) ≡ ltb (length buffer) (slotsOf s)) where

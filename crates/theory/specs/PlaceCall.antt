@@ -5,14 +5,13 @@ use Prim.Native.Nat.{ℕ, _*_}
 use native.Mathlib.Omega.{arith}
 use lib.ListN.{length}
 use lib.IntN.{ℤ}
-use borrow.Author.Tests.{ltb-true}
 use Rattle.terms.specs.Lent.{Faces, stock}
 use Rattle.terms.specs.Refusals.{Refusal, dimensionRefusals, lengthRefusals, coordinateRefusals, faceRefusals}
 use Rattle.terms.specs.PlaceCall.{placeRefusals, placeCode}
-use Rattle.theory.specs.Tested.{TestedPoints, TestedFaces, coordinate-place}
+use Rattle.theory.specs.Tested.{TestedPoints, TestedFaces}
 use Rattle.theory.specs.FirstRefusal.{FirstHeld, noZero, first-held, passed-parts}
 use Rattle.theory.specs.FirstRefusalIsLowest.{Lowest, risesFrom, first-lowest}
-use Rattle.theory.specs.RefusalsPassed.{dimension-passed, length-passed, coordinates-passed, faces-passed}
+use Rattle.theory.specs.RefusalsPassed.{dimension-passed, length-passed, stock-tested, faces-passed}
 
 -- What the one-point test has tested: a stock of one point, and the faces.
 pub record PlacePassed (k : ℕ) (point : List ℤ) (f : Faces) : Type 0 where
@@ -40,15 +39,5 @@ place-passed k point f e =
     let a = passed-parts D (L ++ C ++ F) (place-first k point f .done e) in
     let b = passed-parts L (C ++ F) (a .1) in
     let c = passed-parts C F (b .1) in
-    let d = dimension-passed k (a .0) in
     let size : length point ≡ k * 1 = omega (arith, length-passed k point (b .0)) in
-    record {
-      tested = record {
-        some = d .0;
-        few = d .1;
-        many = omega arith;
-        size = size;
-        each = λ p e. record { ranges = λ i l. coordinates-passed point (c .0) _ (coordinate-place k 1 point size (ltb-true p 1 e) l) };
-      };
-      faced = faces-passed k f (c .1);
-    }
+    record { tested = stock-tested (stock k 1 point) (dimension-passed k (a .0)) (omega arith) size (c .0); faced = faces-passed k f (c .1) }

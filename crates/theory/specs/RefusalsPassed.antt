@@ -47,19 +47,22 @@ pub coordinates-passed : (points : List ℤ) → Passed (coordinateRefusals poin
     → (i : ℕ) → i < length points → Between (negsuc 32767) (getD points i (pos 0)) (pos 32767)
 coordinates-passed points w = within-each (negsuc 32767) (pos 32767) points (not-false (every isCoordinate points) (w .fails 0))
 
+-- A stock of the right shape whose coordinates were passed is tested.
+pub stock-tested : (s : Stock) → (1 ≤ s .k) × (s .k ≤ 4) → s .n ≤ 65535 → length (s .points) ≡ s .k * s .n → Passed (coordinateRefusals (s .points))
+    → TestedPoints s
+stock-tested s dimension many size w = record {
+  some = dimension .0;
+  few = dimension .1;
+  many = many;
+  size = size;
+  each = λ p e. record { ranges = λ i l. coordinates-passed (s .points) w _ (coordinate-place (s .k) (s .n) (s .points) size (ltb-true p (s .n) e) l) };
+}
+
 pub stock-passed : (s : Stock) → Passed (stockRefusals s) → Passed (coordinateRefusals (s .points)) → TestedPoints s
 stock-passed s w c =
     let a = passed-parts (dimensionRefusals (s .k)) (sizeRefusals (s .n) ++ lengthRefusals (s .k * s .n) (s .points)) w in
     let b = passed-parts (sizeRefusals (s .n)) (lengthRefusals (s .k * s .n) (s .points)) (a .1) in
-    let d = dimension-passed (s .k) (a .0) in
-    let size = length-passed (s .k * s .n) (s .points) (b .1) in
-    record {
-      some = d .0;
-      few = d .1;
-      many = size-passed (s .n) (b .0);
-      size = size;
-      each = λ p e. record { ranges = λ i l. coordinates-passed (s .points) c _ (coordinate-place (s .k) (s .n) (s .points) size (ltb-true p (s .n) e) l) };
-    }
+    stock-tested s (dimension-passed (s .k) (a .0)) (size-passed (s .n) (b .0)) (length-passed (s .k * s .n) (s .points) (b .1)) c
 
 pub face-count-passed : (h : ℕ) → Passed (faceCountRefusals h) → h ≤ 32
 face-count-passed h w = ltb-false 32 h (w .fails 0)

@@ -22,7 +22,7 @@ use Rattle.theory.specs.RunParts.{Parts, parts, count-run}
 use Rattle.theory.specs.BeforeIsAnOrder.{before-asym, before-self}
 use Rattle.theory.specs.SameByNumber.{count-none}
 use Rattle.theory.specs.RisingNumbers.{length-rising, members-shelf}
-use Rattle.theory.specs.EachNumberOnce.{BelongBelow, each-once, distinct-each, below-under}
+use Rattle.theory.specs.EachNumberOnce.{BelongBelow, each-once, distinct-each, stock-under}
 
 module _ {f k : ℕ} {at : ℕ → ℕ → ℤ} {j x : ℕ} {xs : List ℕ} (w : Parts f k at j (x ∷ xs)) (v : ℕ) where
   abbrev n : ℕ
@@ -84,4 +84,4 @@ pub shelf-test : (s : Stock) (o : Order) → slotsOf s ≤ length (o .slots)
 shelf-test s o room =
     let size : length (shelfRun s o) ≡ slotsOf s = length-take-le (slotsOf s) (o .slots) room in
     let many : length (members (belongsTo s) (s .n)) ≡ slotsOf s = ap length (members-shelf (s .n)) ∙ length-rising 0 (s .n) in
-    tree-test (s .k) (pointOf s) (belongsTo s) (s .n) (shelfRun s o) (below-under (s .n)) (size ∙ sym many) ∙ rw size
+    tree-test (s .k) (pointOf s) (belongsTo s) (s .n) (shelfRun s o) (stock-under s) (size ∙ sym many) ∙ rw size

@@ -6,7 +6,7 @@ use mathlib.Core.Bool.{Bool, true, false, _&&_}
 use mathlib.Core.List.{List, [], _∷_}
 use Prim.Native.Nat.{ℕ, zero, suc, _+_, _≤_, _<_}
 use native.Mathlib.Omega.{arith}
-use lib.ListN.{length, getD, take}
+use lib.ListN.{length, getD}
 use lib.IntN.{ℤ}
 use lib.Dec.{eqb}
 use borrow.Author.Tests.{eq-eqb, eqb-true}
@@ -20,7 +20,7 @@ use Rattle.theory.specs.Flags.{clash, and-true, and-yes, and-no}
 use Rattle.theory.specs.Counting.{Same, same-sym, same-length, count-yes, count-no, count-same, count-both-le}
 use Rattle.theory.specs.RunParts.{Parts, parts, left-length, whole-run, count-run}
 use Rattle.theory.specs.BeforeIsAnOrder.{before-trans, before-asym, before-self, before-total}
-use Rattle.theory.specs.EachNumberOnce.{BelongBelow, each-same, below-under}
+use Rattle.theory.specs.EachNumberOnce.{BelongBelow, each-same, stock-under}
 
 -- A second test that all of a run pass changes no count, and one that none passes leaves nothing.
 passed-count : (test side : ℕ → Bool) (run : List ℕ) → ((i : ℕ) → i < length run → side (getD run i 0) ≡ true)
@@ -133,4 +133,4 @@ one-tree k at belongs m xs ys under a b =
     one-run (length xs) (length ys) k at 0 xs ys (p .1) (q .1) (each-same belongs m under (p .0) (q .0))
 
 pub one-shelf : (s : Stock) (o q : Order) → isShelf s o ≡ true → isShelf s q ≡ true → shelfRun s o ≡ shelfRun s q
-one-shelf s o q a b = one-tree (s .k) (pointOf s) (belongsTo s) (s .n) (shelfRun s o) (shelfRun s q) (below-under (s .n)) a b
+one-shelf s o q a b = one-tree (s .k) (pointOf s) (belongsTo s) (s .n) (shelfRun s o) (shelfRun s q) (stock-under s) a b

@@ -91,7 +91,7 @@ module _ {k : ℕ} {points : List ℤ} {order : List ℕ} {f : Faces} {a c s : �
     standing = standing-left (w .standing) some;
     boxed = boxed-left (w .standing) (w .boxed) some;
     faced = faced-left (w .faced) own-held s;
-    tallied = tallied-left (w .tallied) some;
+    tallied = tallied-left (w .tallied) (w .standing .fits) some;
   }
 
   -- Once it is walked and the node's own number placed, the right branch can.
@@ -107,7 +107,7 @@ module _ {k : ℕ} {points : List ℤ} {order : List ℕ} {f : Faces} {a c s : �
       standing = standing-right (w .standing) some;
       boxed = boxed-right (w .standing) (w .boxed) some;
       faced = faced-right (w .faced) own-held s;
-      tallied = tallied-right (w .tallied) some v half (slot-boxes-length k (coord k points) order a (c / 2) (omega (arith, w .standing .fits)) _ _) q;
+      tallied = tallied-right (w .tallied) (w .standing .fits) some v half (slot-boxes-length k (coord k points) order a (c / 2) (omega (arith, w .standing .fits)) _ _) q;
     }
 
     -- The three together are the walk of the branch.
@@ -142,7 +142,7 @@ module _ {k : ℕ} {points : List ℤ} {order : List ℕ} {f : Faces} {a c s : �
     pub own-fits : {first : List ℕ} {i₁ u₁ : ℕ} → BranchWalked k points order f start size split box list first i (u + 1) i₁ u₁
         → (i₁ ≤ a + c / 2) × (a + c / 2 < length first)
     own-fits v =
-        tallied-own (w .tallied) some (rw (l .starts, l .slots, l .splits, l .in-box) at v) (run-length order a (c / 2) (omega (arith, w .standing .fits)))
+        tallied-own (w .tallied) (w .standing .fits) some (rw (l .starts, l .slots, l .splits, l .in-box) at v) (run-length order a (c / 2) (omega (arith, w .standing .fits)))
 
     module _ {first next : List ℕ} {i₁ u₁ i₂ : ℕ} (v : BranchWalked k points order f start size split box list first i (u + 1) i₁ u₁)
         (q : Placed first next (ownOf order a c) (inside (region k f) (coord k points (ownOf order a c))) (a + c / 2) i₁ i₂)
@@ -160,11 +160,12 @@ module _ {k : ℕ} {points : List ℤ} {order : List ℕ} {f : Faces} {a c s : �
           → BranchWalked k points order f a c s b list last i u i₃ u₃
       branch-open e z = walked-node left-walked q e (rw (r .starts, r .slots, r .splits, r .in-box) at z)
 
--- What both parts ask of the branch and what they do, read off the values that they take and give.
+-- What both parts ask of the branch, read off the values that they take.
 abbrev pub BranchAsks : ℕ → List ℤ → List ℕ → Faces → Run → List ℕ → ℕ → List ℕ → Tally → Type 0
 BranchAsks k points order f run live count list tally =
     Walkable k points order f (run .start) (run .length) (run .axis) (boxOf (run .rows)) live count list (tally .inside) (tally .visits)
 
+-- What they do with it, read off the values that they take and give.
 abbrev pub BranchDoes : ℕ → List ℤ → List ℕ → Faces → Run → List ℕ → List ℕ → Tally → Tally → Type 0
 BranchDoes k points order f run list after tally next =
     BranchWalked k points order f (run .start) (run .length) (run .axis) (boxOf (run .rows)) list after

@@ -31,7 +31,7 @@ walkable-root r faces all size = record {
   standing = r .standing;
   boxed = boxed-root r;
   faced = record { faces = faces; lives = all .lives _ _ refl };
-  tallied = record { size = size; few = omega arith; fits = omega arith; seen = omega arith };
+  tallied = record { size = size; few = omega arith; seen = omega arith };
 }
 
 -- What the walk of a shelf leaves in the list and answers.

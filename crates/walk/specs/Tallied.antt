@@ -16,19 +16,18 @@ use Rattle.walk.specs.Walked.{Walked, walked-most}
 pub record Tallied (order list : List ℕ) (a c i u : ℕ) : Type 0 where
   pub size : length list ≡ length order
   pub few : i ≤ a
-  pub fits : a + c ≤ length order
   pub seen : u + c ≤ length order
 
-module _ {order list : List ℕ} {a c i u : ℕ} (w : Tallied order list a c i u) (some : 0 < c) where
+module _ {order list : List ℕ} {a c i u : ℕ} (w : Tallied order list a c i u) (fits : a + c ≤ length order) (some : 0 < c) where
   pub tallied-left : Tallied order list a (c / 2) i (u + 1)
-  tallied-left = record { size = w .size; few = w .few; fits = omega (arith, w .fits); seen = omega (arith, w .seen) }
+  tallied-left = record { size = w .size; few = w .few; seen = omega (arith, w .seen) }
 
   -- The left branch was walked.
   module _ {g : Region} {at : ℕ → ℕ → ℤ} {run : List ℕ} {slotBoxes : List Box} {first : List ℕ} {j v : ℕ}
       (left : Walked g at run slotBoxes list first a i (u + 1) j v) (slots : length run ≡ c / 2) where
     -- The node's own number has a place.
     pub tallied-own : (j ≤ a + c / 2) × (a + c / 2 < length first)
-    tallied-own = (omega (arith, listed-most (left .listed) (w .few), slots), omega (arith, left .listed .filled .size, w .size, w .fits))
+    tallied-own = (omega (arith, listed-most (left .listed) (w .few), slots), omega (arith, left .listed .filled .size, w .size, fits))
 
     -- It was placed.
     pub tallied-right : {next : List ℕ} {p : ℕ} {test : Bool} {l : ℕ} → length slotBoxes ≡ c / 2 → Placed first next p test (a + c / 2) j l
@@ -36,6 +35,5 @@ module _ {order list : List ℕ} {a c i u : ℕ} (w : Tallied order list a c i u
     tallied-right boxes q = record {
       size = q .filled .size ∙ left .listed .filled .size ∙ w .size;
       few = omega (arith, tallied-own .0, q .filled .slots, q .filled .insides);
-      fits = omega (arith, w .fits);
       seen = omega (arith, w .seen, walked-most left boxes);
     }

@@ -1,7 +1,7 @@
 -- The place of the coordinate is within the points, and a tested coordinate lifts to a number below 65,536, so that nothing wraps.
 use native.Mathlib.Omega.{arith}
 use Rattle.terms.specs.Points.{coord}
-use Rattle.arrange.specs.Key.{keyOf, key-place, coordinate-range, Lifts, lifts}
+use Rattle.arrange.specs.Key.{keyOf, key-below, key-place, coordinate-range, Lifts, lifts}
 use Rattle.arrange.proofs.key.key.Statement.{statement}
 use Rattle.arrange.proofs.key.key.Tie as tie
 
@@ -31,7 +31,7 @@ mul-result : tie.Need-mul-result
 mul-result c = rw (coordinate c .back) (omega (arith, coordinate c .small))
 
 add-result : tie.Need-add-result
-add-result c = rw (coordinate c .back) (omega (arith, coordinate c .small))
+add-result c = rw (coordinate c .back) (omega (arith, key-below (c .before .pre), coordinate c .small))
 
 returns : tie.Need-returns
 unfolding keyOf

@@ -9,10 +9,10 @@ use Rattle.arrange.proofs.key.write_keys.Statement.{statement}
 use Rattle.arrange.proofs.key.write_keys.Tie as tie
 
 abbrev Inv-loop : tie.InvT-loop
-Inv-loop points k s run₀ i₀ run i = MappedTo (keyOf k points s) run₀ run i
+Inv-loop k points s run₀ i₀ run i = MappedTo (keyOf k points s) run₀ run i
 
 abbrev μ-loop : tie.MeasureT-loop
-μ-loop points k s run₀ i₀ run i = length run₀ - i
+μ-loop k points s run₀ i₀ run i = length run₀ - i
 
 loop-holds : tie.Need-loop-holds Inv-loop μ-loop
 loop-holds c = written-none _ (c .before .args .run .now)

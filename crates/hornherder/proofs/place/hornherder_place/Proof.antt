@@ -1,7 +1,6 @@
 -- A refusal is the answer; where all was passed, the test of the one point, read into a value, against all faces is.
-use mathlib.Core.Path.{sym, _∙_}
+use mathlib.Core.Path.{refl, sym, _∙_}
 use mathlib.Core.Bool.{true, false}
-use native.Mathlib.Omega.{arith}
 use borrow.Author.Needs.{needs}
 use Rattle.terms.specs.Lent.{faces}
 use Rattle.theory.specs.PlaceCall.{PlacePassed}
@@ -21,7 +20,7 @@ passed : (c : tie.Else1) → let a = c .before .before .args in PlacePassed (a .
 passed c = place-tested _ _ _ (c .before .place-refusal .ensures) (c .if1 .left)
 
 point-at-requires : tie.Need-point-at-requires
-point-at-requires c κs = has-point (passed c .tested) (omega arith)
+point-at-requires c κs = has-point (passed c .tested) refl
 
 inside-all-requires : tie.Need-inside-all-requires
 inside-all-requires c κs =
