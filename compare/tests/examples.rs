@@ -1,4 +1,4 @@
-//! The scope paper's examples, with the library itself.
+//! The twelve given examples, with the library itself.
 
 use compare::calls;
 use compare::cases;

@@ -1,5 +1,5 @@
-//! A plain, slow implementation of the scope paper, written from that paper
-//! alone, to compare the library with.
+//! A plain, slow implementation of the words (docs/WORDS.md), written from
+//! their meaning alone, to compare the library with.
 
 pub mod bound;
 pub mod calls;

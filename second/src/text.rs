@@ -2,7 +2,7 @@
 
 use crate::calls::{build, list, Listing};
 
-/// The number of a text that is not as the scope paper says.
+/// The number of a text that breaks a rule of the text.
 pub const NOT_THE_TEXT: u32 = 10;
 
 /// The longest text, in bytes.

@@ -20,8 +20,8 @@ impl Dice {
     }
 }
 
-/// Whether the run is a tree by the words of the scope paper: everything left
-/// strictly before the node, everything right strictly after.
+/// Whether the run is a tree by the words themselves: everything left strictly
+/// before the node, everything right strictly after.
 fn is_tree(k: usize, points: &[i32], run: &[u32], depth: usize) -> bool {
     if run.is_empty() {
         return true;

@@ -1,4 +1,4 @@
-//! The twelve shelf examples of the scope paper and the rows of S.
+//! The twelve given examples and the rows of S.
 
 use second::{build, check, list, open_slots, place, s, shelf_text, visits_of_face, Listing};
 

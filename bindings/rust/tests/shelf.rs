@@ -6,7 +6,7 @@ use std::thread;
 const A: [i32; 12] = [1, 5, 4, 2, 4, 8, 7, 1, 6, 6, 2, 2];
 const A_ORDER: [u32; 6] = [1, 5, 0, 2, 3, 4];
 
-/// The region of the scope paper's second example.
+/// The region of the README's example.
 fn two_faces() -> Region {
     Region::new(2, vec![1, 1, -1, 0], vec![7, -6]).unwrap()
 }

@@ -1,5 +1,5 @@
 -- The table of examples: rows of arguments with what the calls must give, all proved as one statement by computing the calls' definitions.
--- The first part has the scope paper's examples 1 to 9; the second has rows of our own where those leave a choice open.
+-- The first part has the given examples 1 to 9 and the table of S; the second has rows of our own where those leave a choice open.
 use mathlib.Core.Path.{_≡_, refl, sym}
 use mathlib.Core.Bool.{Bool, true, false}
 use mathlib.Core.List.{List, [], _∷_, map}
@@ -110,7 +110,7 @@ refusal c = record { code = c; inside = 0; outside = 0; visits = 0 }
 abbrev answers : ℕ → ℕ → Placing
 answers code inside = record { code = code; inside = inside }
 
--- ---- the scope paper's examples
+-- ---- the given examples
 
 -- Shelf A.
 abbrev shelfA : Shelf

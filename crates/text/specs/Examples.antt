@@ -1,4 +1,4 @@
--- The texts of the scope paper, and some of our own where those leave a choice open: the definitions compute to them.
+-- The given text, and some of our own where it leaves a choice open: the definitions compute to them.
 use mathlib.Core.Path.{_≡_, refl}
 use mathlib.Core.List.{[], _∷_}
 use lib.IntN.{pos, negsuc}
@@ -7,7 +7,7 @@ use Rattle.text.specs.Decimal.{digitsWithin, decimal, written}
 use Rattle.text.specs.Input.{numbers, pointLines, faceLines, inputText}
 use Rattle.text.specs.Answer.{items, printed, answerText, refusedText}
 
--- The scope paper's input: six points and two faces.
+-- The given input: six points and two faces.
 pub input : inputText 2 6 2
     (pos 1 ∷ pos 5 ∷ pos 4 ∷ pos 2 ∷ pos 4 ∷ pos 8 ∷ pos 7 ∷ pos 1 ∷ pos 6 ∷ pos 6 ∷ pos 2 ∷ pos 2 ∷ [])
     (pos 1 ∷ pos 1 ∷ negsuc 0 ∷ pos 0 ∷ [])
@@ -16,7 +16,7 @@ pub input : inputText 2 6 2
 unfolding digitsWithin decimal written numbers pointLines faceLines inputText
 input = refl
 
--- The scope paper's output for it.
+-- The given output for it.
 pub output : answerText (1 ∷ 5 ∷ 0 ∷ 2 ∷ 3 ∷ 4 ∷ []) 2 4 5 (2 ∷ 4 ∷ 3 ∷ 0 ∷ 5 ∷ 1 ∷ [])
     ≡ ascii "order 1 5 0 2 3 4\ncount 2 4 5\nlist 2 4 3 0 5 1\n"
 unfolding digitsWithin decimal items printed answerText
