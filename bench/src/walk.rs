@@ -1,4 +1,4 @@
-//! Algorithm 4 by hand, with no proof: live faces, and the corner of a box filled by the signs of a face.
+//! The walk by hand, with no proof: live faces, and the corner of a box filled by the signs of a face.
 
 use crate::library::Listing;
 use crate::region::Region;

@@ -1,5 +1,4 @@
-// The two parts of the walk, as algorithm 4: the part for a branch judges its box, the part for a node visits it, and they call each other on ever
-// shorter runs.
+// The two parts of the walk: the part for a branch judges its box, the part for a node visits it, and they call each other on ever shorter runs.
 use crate::Tally;
 use descent::points::coordinate;
 use descent::points::point_at;
