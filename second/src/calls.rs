@@ -1,5 +1,6 @@
-//! The four calls, and functions that look at the visits behind a list.
+//! The five calls, and functions that look at the visits behind a list.
 
+use crate::found::{found_number, visits_of_screen};
 use crate::lists::{inside_and_outside, places};
 use crate::order::built_order;
 use crate::refusals;
@@ -13,6 +14,16 @@ pub struct Listing {
     pub code: u32,
     pub inside: u32,
     pub outside: u32,
+    pub visits: u32,
+}
+
+/// The answer of screen: found is 1 or 0, and number is 0 where none is found; on
+/// a refusal all but the code is 0.
+#[derive(Clone, Copy, Debug, Default, PartialEq, Eq)]
+pub struct Screening {
+    pub code: u32,
+    pub found: u32,
+    pub number: u32,
     pub visits: u32,
 }
 
@@ -66,6 +77,35 @@ pub fn list(
         inside: within.len() as u32,
         outside: without.len() as u32,
         visits: visits::visits(&shelf, &faces),
+    }
+}
+
+/// Gives the inside number in the lowest slot, or says that there is none.
+pub fn screen(
+    k: usize,
+    n: usize,
+    h: usize,
+    points: &[i32],
+    order: &[u32],
+    normals: &[i32],
+    offsets: &[i64],
+) -> Screening {
+    let code = refusals::of_screen(k, n, h, points, order, normals, offsets);
+    if code != 0 {
+        return Screening {
+            code,
+            ..Screening::default()
+        };
+    }
+    let slots = &order[..n];
+    let shelf = Shelf { k, points, slots };
+    let faces = faces(k, h, normals, offsets);
+    let number = found_number(&shelf, &faces);
+    Screening {
+        code: 0,
+        found: u32::from(number.is_some()),
+        number: number.unwrap_or(0),
+        visits: visits_of_screen(&shelf, &faces),
     }
 }
 

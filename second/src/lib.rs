@@ -3,6 +3,7 @@
 
 pub mod bound;
 pub mod calls;
+pub mod found;
 pub mod lists;
 pub mod order;
 pub mod refusals;
@@ -13,6 +14,7 @@ pub mod visits;
 
 pub use bound::{binary_digits, is_square, s};
 pub use calls::{
-    build, check, list, open_slots, place, visits_of_face, visits_of_region, Listing, Placing,
+    build, check, list, open_slots, place, screen, visits_of_face, visits_of_region, Listing,
+    Placing, Screening,
 };
 pub use text::shelf_text;

@@ -103,6 +103,29 @@ pub fn of_list(
     ])
 }
 
+/// What screen returns: tests 1 to 9 as for list, without the list buffer.
+pub fn of_screen(
+    k: usize,
+    n: usize,
+    h: usize,
+    points: &[i32],
+    order: &[u32],
+    normals: &[i32],
+    offsets: &[i64],
+) -> u32 {
+    lowest(&[
+        (1, &|| dimension_wrong(k)),
+        (2, &|| too_many_points(n)),
+        (3, &|| not_times_long(points.len(), k, n)),
+        (4, &|| shorter(order.len(), n)),
+        (5, &|| coordinate_wrong(points)),
+        (6, &|| too_many_faces(h)),
+        (7, &|| faces_not_long(k, h, normals, offsets)),
+        (8, &|| face_wrong(normals, offsets)),
+        (9, &|| !is_tree(k, n, points, order)),
+    ])
+}
+
 /// What the one-point test returns: tests 1, 3 and 5 to 8.
 pub fn of_place(k: usize, h: usize, point: &[i32], normals: &[i32], offsets: &[i64]) -> u32 {
     lowest(&[

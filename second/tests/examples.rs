@@ -1,6 +1,7 @@
 //! The twelve given examples and the rows of S.
 
-use second::{build, check, list, open_slots, place, s, shelf_text, visits_of_face, Listing};
+use second::{build, check, list, open_slots, place, s, screen, shelf_text};
+use second::{visits_of_face, Listing};
 
 const A: [i32; 12] = [1, 5, 4, 2, 4, 8, 7, 1, 6, 6, 2, 2];
 const A_ORDER: [u32; 6] = [1, 5, 0, 2, 3, 4];
@@ -133,6 +134,8 @@ fn example_10_dimension_and_count() {
         let answer = list(k, 2, 0, &vec![0; 2 * k], &[0, 1], &[], &[], &mut [9, 9]);
         assert_eq!(answer.code, code);
         assert_eq!(place(k, 0, &vec![0; k], &[], &[]).code, code);
+        let answer = screen(k, 2, 0, &vec![0; 2 * k], &[0, 1], &[], &[]);
+        assert_eq!(answer.code, code);
     }
     let mut order = vec![0; 65_536];
     assert_eq!(build(1, 65_536, &vec![0; 65_536], &mut order), 2);

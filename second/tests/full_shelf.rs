@@ -1,6 +1,6 @@
 //! Full shelves: 65,535 points and 32 faces in each dimension.
 
-use second::{build, check, list, s};
+use second::{build, check, list, s, screen};
 use std::time::Instant;
 
 const N: usize = 65_535;
@@ -15,7 +15,8 @@ fn coordinates(count: usize) -> Vec<i32> {
     (0..count).map(next).collect()
 }
 
-/// Builds, checks and lists a full shelf with 32 square faces, and shows the time.
+/// Builds, checks, lists and screens a full shelf with 32 square faces, and shows
+/// the time.
 #[test]
 fn full_shelves() {
     for k in 1..=4 {
@@ -39,5 +40,8 @@ fn full_shelves() {
         assert_eq!(answer.code, 0);
         assert_eq!(answer.inside + answer.outside, 65_535);
         assert!(u64::from(answer.visits) <= 32 * s(N, k));
+        let first = screen(k, N, 32, &points, &order, &normals, &offsets);
+        assert_eq!((first.code, first.found, first.number), (0, 1, places[0]));
+        assert!(first.visits <= answer.visits);
     }
 }

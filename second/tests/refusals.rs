@@ -1,7 +1,7 @@
 //! Limits on both sides, the rising order of the tests, and what a refusal
 //! leaves alone.
 
-use second::{build, check, list, open_slots, place, Listing, Placing};
+use second::{build, check, list, open_slots, place, screen, Listing, Placing, Screening};
 
 const M: i64 = 8_589_934_592;
 
@@ -59,6 +59,28 @@ fn refuses(lent: &Lent, code: u32) {
     assert_eq!(buffer, lent.list);
 }
 
+/// Calls screen with the same arguments but for the list buffer.
+fn screened(lent: &Lent) -> Screening {
+    screen(
+        lent.k,
+        lent.n,
+        lent.h,
+        &lent.points,
+        &lent.order,
+        &lent.normals,
+        &lent.offsets,
+    )
+}
+
+/// Asks that screen refuses with this number and zeros.
+fn screen_refuses(lent: &Lent, code: u32) {
+    let refusal = Screening {
+        code,
+        ..Screening::default()
+    };
+    assert_eq!(screened(lent), refusal);
+}
+
 /// A change that brings one refusal about.
 type Break = (u32, fn(&mut Lent));
 
@@ -107,6 +129,69 @@ fn list_refuses_in_rising_order() {
     for (code, change) in BREAKS {
         change(&mut lent);
         refuses(&lent, code);
+    }
+}
+
+/// The breaks of screen: it has no list buffer, so 4 is for a short order.
+fn breaks_of_screen() -> [Break; 9] {
+    BREAKS.map(|(code, change)| match code {
+        4 => (4, (|lent| lent.order.truncate(1)) as fn(&mut Lent)),
+        _ => (code, change),
+    })
+}
+
+/// Screen refuses each break alone with its own number.
+#[test]
+fn screen_refuses_each_alone() {
+    assert_eq!(screened(&right()).code, 0);
+    for (code, change) in breaks_of_screen() {
+        let mut lent = right();
+        change(&mut lent);
+        screen_refuses(&lent, code);
+    }
+}
+
+/// Screen refuses any two breaks together with the lower number.
+#[test]
+fn screen_refuses_the_lower_of_two() {
+    let breaks = breaks_of_screen();
+    for (high, first) in breaks {
+        for (low, second) in breaks.into_iter().filter(|&(low, _)| low < high) {
+            let mut lent = right();
+            first(&mut lent);
+            second(&mut lent);
+            screen_refuses(&lent, low);
+        }
+    }
+}
+
+/// Screen with all breaks heaped up from 9 to 1: always the lowest so far.
+#[test]
+fn screen_refuses_in_rising_order() {
+    let mut lent = right();
+    for (code, change) in breaks_of_screen() {
+        change(&mut lent);
+        screen_refuses(&lent, code);
+    }
+}
+
+/// Screen refuses what list refuses where the list buffer is long enough.
+#[test]
+fn screen_refuses_as_list_does() {
+    for (_, change) in breaks_of_screen() {
+        let mut lent = right();
+        change(&mut lent);
+        lent.list = vec![80; lent.n];
+        assert_eq!(screened(&lent).code, called(&lent).0.code);
+    }
+}
+
+/// Screen says 9 for a number twice and for a number at least n.
+#[test]
+fn screen_refuses_strange_numbers() {
+    for order in [[0, 0], [1, 1], [1, 0], [0, 2], [0, u32::MAX]] {
+        let answer = screen(1, 2, 1, &[0, 10], &order, &[1], &[5]);
+        assert_eq!((answer.code, answer.found, answer.number), (9, 0, 0));
     }
 }
 
@@ -247,6 +332,8 @@ fn greatest_numbers_are_refused() {
     let answer = list(4, 0, most / 4 + 1, &[], &[], &[], &[], &mut []);
     assert_eq!(answer.code, 6);
     assert_eq!(open_slots(4, 0, most, &[], &[], &[], &[]), Err(6));
+    assert_eq!(screen(4, most, 0, &[], &[], &[], &[]).code, 2);
+    assert_eq!(screen(4, 0, most, &[], &[], &[], &[]).code, 6);
 }
 
 /// The empty shelf: done, nothing listed, no visits.
