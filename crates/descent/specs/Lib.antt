@@ -7,3 +7,4 @@ pub mod Faced
 pub mod Runs
 pub mod RootBox
 pub mod Root
+pub mod SettledSlots

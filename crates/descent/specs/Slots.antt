@@ -1,5 +1,5 @@
 -- A run of c slots of the order from slot a on: its node and its two branches are slots and runs of the order too.
-use mathlib.Core.Path.{_≡_, refl, ap, _∙_}
+use mathlib.Core.Path.{_≡_, refl, sym, ap, _∙_}
 use mathlib.Core.List.{List, [], _∷_, _++_}
 use Prim.Native.Nat.{ℕ, _+_, _-_, _/_, _≤_, _<_}
 use native.Mathlib.Nat.{not-suc-le-zero}
@@ -53,6 +53,17 @@ module _ (order : List ℕ) (a c : ℕ) (fits : a + c ≤ length order) where
     -- The run is its left branch, its node and its right branch.
     pub run-whole : runOf order a c ≡ runOf order a (c / 2) ++ ownOf order a c ∷ runOf order (a + c / 2 + 1) (c - c / 2 - 1)
     run-whole = rw (run-lefts, run-node, run-rights) at (whole (runOf order a c) (rw run-length some))
+
+-- A run that is not empty starts with the number in its first slot.
+pub run-starts : (order : List ℕ) (a c : ℕ) → a + c ≤ length order → 0 < c → (rest : List ℕ) × (runOf order a c ≡ getD order a 0 ∷ rest)
+run-starts order a c fits some = go (runOf order a c) refl
+  where
+    go : (run : List ℕ) → runOf order a c ≡ run → (rest : List ℕ) × (runOf order a c ≡ getD order a 0 ∷ rest)
+    go [] e = absurd (omega (arith, run-length order a c fits, ap length e))
+    go (x ∷ xs) e =
+        let head : getD (runOf order a c) 0 0 ≡ x = ap (λ (run : List ℕ). getD run 0 0) e in
+        let slot : getD (runOf order a c) 0 0 ≡ getD order a 0 = getD-take c (drop a order) 0 0 some ∙ getD-drop a order 0 0 ∙ ap (λ (i : ℕ). getD order i 0) (omega arith) in
+        (xs, e ∙ ap (λ (p : ℕ). p ∷ xs) (sym head ∙ slot))
 
 -- What `&order[a..a + c]` lends is the run.
 abbrev pub lentOf : List ℕ → ℕ → ℕ → List ℕ

@@ -16,7 +16,7 @@ use Rattle.terms.specs.Box.{Box, boxOf, leftBox, rightBox, boxes}
 use Rattle.terms.specs.Region.{region, inside, whollyAbove, whollyBelow, isOpen}
 use Rattle.theory.specs.AllAndAny.{OneBelow}
 use Rattle.theory.specs.Boxes.{In}
-use Rattle.theory.specs.Nesting.{settled-none-open, above-all-settled, below-one-settled}
+use Rattle.theory.specs.Nesting.{above-all-settled, below-one-settled}
 use Rattle.region.specs.Live.{Lives}
 use Rattle.list_buffer.specs.Filled.{Placed, pasteBack}
 use Rattle.walk.specs.declared.Tally.{Tally}
@@ -27,6 +27,7 @@ use Rattle.descent.specs.Boxed.{Boxed, boxed-own, boxed-left, boxed-right}
 use Rattle.descent.specs.Faced.{Faced, faced-left, faced-right}
 use Rattle.descent.specs.Runs.{Child}
 use Rattle.descent.specs.SlotBoxes.{slotBoxes, slot-boxes-length, slot-boxes-whole}
+use Rattle.descent.specs.SettledSlots.{settled-slots}
 use Rattle.walk.specs.Walked.{Walked, walked-none, walked-inside, walked-outside, walked-open}
 use Rattle.walk.specs.Tallied.{Tallied, tallied-left, tallied-own, tallied-right}
 
@@ -60,24 +61,21 @@ module _ {k : ℕ} {points : List ℤ} {order : List ℕ} {f : Faces} {a c s : �
     tallied = w .tallied;
   }
 
-  -- A settled branch, as its run was lent to a copier.
-  none-open : isOpen (region k f) b ≡ false → count (isOpen (region k f)) (slotBoxes k (coord k points) order a c s b) ≡ 0
-  none-open = settled-none-open (w .standing .fuel) c (region k f) (coord k points) s (runOf order a c) b (w .standing .tree) (w .boxed .held)
-
   room : a + length (runOf order a c) ≤ length list
   room = omega (arith, run-length order a c (w .standing .fits), w .tallied .size, w .standing .fits)
 
+  -- A settled branch, as its run was lent to a copier.
   pub branch-inside : {after : List ℕ} → ((i : ℕ) → i < f .h → whollyAbove (region k f) b i ≡ true)
       → after ≡ paste list i (lentOf order a c) (length (lentOf order a c)) → BranchWalked k points order f a c s b list after i u (i + c) u
   branch-inside above e =
       rw (run-length order a c (w .standing .fits))
-      at (walked-inside u (w .tallied .few) room (w .boxed .held) (none-open (above-all-settled (region k f) b above)) above (rw (lent-run order a c) at e))
+      at (walked-inside u (w .tallied .few) room (w .boxed .held) (settled-slots f (w .standing) (w .boxed) (above-all-settled (region k f) b above)) above (rw (lent-run order a c) at e))
 
   pub branch-outside : {after : List ℕ} → OneBelow (f .h) (whollyBelow (region k f) b) true
       → after ≡ pasteBack list (length list - (a - i)) (lentOf order a c) (length (lentOf order a c))
       → BranchWalked k points order f a c s b list after i u i u
   branch-outside below e =
-      walked-outside u (w .tallied .few) room (w .boxed .held) (none-open (below-one-settled (region k f) b below)) below (rw (lent-run order a c) at e)
+      walked-outside u (w .tallied .few) room (w .boxed .held) (settled-slots f (w .standing) (w .boxed) (below-one-settled (region k f) b below)) below (rw (lent-run order a c) at e)
 
 module _ {k : ℕ} {points : List ℤ} {order : List ℕ} {f : Faces} {a c s : ℕ} {b : Box} {live : List ℕ} {n : ℕ} {list : List ℕ} {i u : ℕ}
     (w : Walkable k points order f a c s b live n list i u) (some : 0 < c) where

@@ -85,7 +85,7 @@ fn node(
     live: &[u8; 32],
     count: usize,
     list: &mut [u32],
-    tally: Tally,
+    mut tally: Tally,
 ) -> Tally
     requires { ⌜ BranchAsks k (now points) (now order) (facesOf (now normals) (now offsets)) run (now live) count (now list) tally ⌝ }
     requires { ⌜ 0 < run .length ⌝ }
@@ -96,11 +96,10 @@ fn node(
     let p = order[middle];
     let x = point_at(k, points, p as usize);
     let inside = inside_live(k, x, normals, offsets, live, count);
-    let mut start = tally;
-    start.visits += 1;
+    tally.visits += 1;
     if run.length == 1 {
-        start.inside = place(p, inside, list, middle, tally.inside);
-        return start;
+        tally.inside = place(p, inside, list, middle, tally.inside);
+        return tally;
     }
     let split = coordinate(k, points, p as usize, run.axis);
     let next = next_axis(k, run.axis);
@@ -116,7 +115,7 @@ fn node(
         live,
         count,
         list,
-        start,
+        tally,
     );
     let mut own = first;
     own.inside = place(p, inside, list, middle, first.inside);

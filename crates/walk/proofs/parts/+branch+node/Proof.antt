@@ -250,8 +250,8 @@ module _ (t : ℕ) where
       let w = c .before .before .before .before .before .before .pre .1 .0 in
       (c .point-at .ensures .ranges, (w .faced .faces, w .faced .lives .live))
 
-  node-add-start : node-lts.Need-add-start node-calls node-at node.Post
-  node-add-start c =
+  node-add-tally : node-lts.Need-add-tally node-calls node-at node.Post
+  node-add-tally c =
       let s = c .before .before .before .before .before .before .before .before .pre .1 in
       let w = s .0 .tallied in
       let some = s .1 .0 in
@@ -362,7 +362,7 @@ pub +branch+node-spec : {M : Type 1} → statement M
     (node-cast-point-at t)
     (node-point-at-requires t)
     (node-inside-live-requires t)
-    (node-add-start t)
+    (node-add-tally t)
     (node-place-requires t)
     (node-same-length t)
     (node-returns t)
