@@ -112,6 +112,15 @@ size_t cgal_list(const void *tree, size_t k, size_t h, const int32_t *normals, c
     });
 }
 
+size_t cgal_any(const void *tree, size_t k, size_t h, const int32_t *normals, const int64_t *offsets, uint32_t *found) {
+    return with_dimension(k, [&](auto dimension) -> size_t {
+        constexpr int K = dimension();
+        auto any = static_cast<const Tree<K> *>(tree)->search_any_point(Region<K>(h, normals, offsets));
+        if (any) *found = any->number;
+        return any ? 1 : 0;
+    });
+}
+
 void cgal_free_tree(void *tree, size_t k) {
     with_dimension(k, [&](auto dimension) { delete static_cast<Tree<dimension()> *>(tree); });
 }

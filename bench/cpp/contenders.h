@@ -18,6 +18,8 @@ void *cgal_points(size_t k, size_t n, const int32_t *points);
 void *cgal_build(const void *points, size_t k);
 // Writes the numbers of the points inside the region in the tree's own order, and returns how many.
 size_t cgal_list(const void *tree, size_t k, size_t h, const int32_t *normals, const int64_t *offsets, uint32_t *found);
+// Writes the number of one point inside the region, whichever the tree comes to first, and returns how many it wrote: 1 or 0.
+size_t cgal_any(const void *tree, size_t k, size_t h, const int32_t *normals, const int64_t *offsets, uint32_t *found);
 // Gives a tree or the points back.
 void cgal_free_tree(void *tree, size_t k);
 void cgal_free_points(void *points, size_t k);

@@ -4,7 +4,7 @@ use crate::builder;
 use crate::clock::{best_of, Contender};
 use crate::cpp::{CgalPoints, CgalTree, Nanoflann};
 use crate::library;
-use crate::measured::Measured;
+use crate::measured::{Call, Measured};
 use crate::stock::Stock;
 
 /// How many points a leaf of nanoflann's index holds at most, as it is by itself.
@@ -56,6 +56,7 @@ pub fn measure(stock: &Stock, order: &[u32], rounds: usize) -> Measured {
         }),
     ];
     Measured {
+        call: Call::Build,
         points: stock.kind,
         k: stock.k,
         n: stock.n,

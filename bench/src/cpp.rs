@@ -13,6 +13,7 @@ extern "C" {
     fn cgal_points(k: usize, n: usize, points: *const i32) -> *mut c_void;
     fn cgal_build(points: *const c_void, k: usize) -> *mut c_void;
     fn cgal_list(tree: *const c_void, k: usize, h: usize, normals: *const i32, offsets: *const i64, found: *mut u32) -> usize;
+    fn cgal_any(tree: *const c_void, k: usize, h: usize, normals: *const i32, offsets: *const i64, found: *mut u32) -> usize;
     fn cgal_free_tree(tree: *mut c_void, k: usize);
     fn cgal_free_points(points: *mut c_void, k: usize);
     fn scan_slots(k: usize, n: usize, h: usize, points: *const i32, order: *const u32, normals: *const i32, offsets: *const i64, list: *mut u32) -> usize;
@@ -96,6 +97,15 @@ impl CgalTree {
             let found = found.as_mut_ptr();
             cgal_list(self.tree, self.k, region.h, normals, offsets, found)
         }
+    }
+
+    /// The number of the first point inside the region that the search comes to, in the tree's own order, if there is one.
+    pub fn any(&self, region: &Region) -> Option<u32> {
+        let (normals, offsets) = (region.normals.as_ptr(), region.offsets.as_ptr());
+        let mut number = 0;
+        // SAFETY: the faces are as long as h and k say, and there is room for one number.
+        let found = unsafe { cgal_any(self.tree, self.k, region.h, normals, offsets, &mut number) };
+        (found == 1).then_some(number)
     }
 }
 

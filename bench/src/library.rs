@@ -4,7 +4,7 @@ use crate::region::Region;
 use crate::stock::Stock;
 use hornherder::raw;
 
-pub use hornherder::raw::Listing;
+pub use hornherder::raw::{Listing, Screening};
 
 /// Arranges the shelf.
 pub fn build(stock: &Stock, order: &mut [u32]) -> u32 {
@@ -21,4 +21,11 @@ pub fn check(stock: &Stock, order: &[u32]) -> u32 {
 pub fn list(stock: &Stock, order: &[u32], region: &Region, list: &mut [u32]) -> Listing {
     let (normals, offsets) = (&region.normals, &region.offsets);
     raw::list(stock.k, stock.n, region.h, &stock.points, order, normals, offsets, list)
+}
+
+/// Finds the first number inside the region.
+#[rustfmt::skip]
+pub fn screen(stock: &Stock, order: &[u32], region: &Region) -> Screening {
+    let (normals, offsets) = (&region.normals, &region.offsets);
+    raw::screen(stock.k, stock.n, region.h, &stock.points, order, normals, offsets)
 }

@@ -3,7 +3,7 @@
 use crate::clock::{best_of, Contender};
 use crate::cpp::{self, CgalPoints, CgalTree};
 use crate::library::{self, Listing};
-use crate::measured::{Asked, Measured};
+use crate::measured::{Asked, Call, Measured};
 use crate::region::Region;
 use crate::scan::scan;
 use crate::stock::Stock;
@@ -13,7 +13,7 @@ use crate::walk::walk;
 pub struct Shelf<'a> {
     pub stock: &'a Stock,
     pub order: &'a [u32],
-    tree: CgalTree,
+    pub tree: CgalTree,
 }
 
 impl<'a> Shelf<'a> {
@@ -83,6 +83,7 @@ pub fn measure(shelf: &Shelf, region: &Region, rounds: usize) -> Measured {
         visits: listing.visits,
     };
     Measured {
+        call: Call::List,
         points: stock.kind,
         k: stock.k,
         n: stock.n,

@@ -17,6 +17,7 @@ mod plot;
 mod region;
 mod rows;
 mod scan;
+mod screens;
 mod stock;
 mod table;
 mod targets;

@@ -10,8 +10,17 @@ pub struct Asked {
     pub visits: u32,
 }
 
+/// The call that a workload is for; a build also has the check.
+#[derive(Clone, Copy)]
+pub enum Call {
+    Build,
+    List,
+    Screen,
+}
+
 /// A workload and the best time of each contender, in microseconds.
 pub struct Measured {
+    pub call: Call,
     pub points: &'static str,
     pub k: usize,
     pub n: usize,
@@ -20,10 +29,13 @@ pub struct Measured {
 }
 
 impl Measured {
-    /// The time of the contender of this name. The walk is what the list call takes beyond the check call.
+    /// The time of the contender of this name. A walk is what its call takes beyond the check call.
     pub fn time(&self, name: &str) -> f64 {
-        if name == "walk" {
-            return (self.time("list") - self.time("check")).max(0.0);
+        let beyond_check = |call: &str| (self.time(call) - self.time("check")).max(0.0);
+        match name {
+            "walk" => return beyond_check("list"),
+            "screen's walk" => return beyond_check("screen"),
+            _ => {}
         }
         let found = self.times.iter().find(|(known, _)| *known == name);
         found.expect("the contender was measured").1

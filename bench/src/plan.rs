@@ -4,7 +4,8 @@ use crate::builds;
 use crate::hard::{AGAINST_PIVOTS, HARD};
 use crate::lists::{self, Shelf};
 use crate::measured::Measured;
-use crate::region::{one_plane, slanted, square, Region};
+use crate::region::{emptied, first_slot, one_plane, slanted, square, Region};
+use crate::screens;
 use crate::stock::{Kind, Stock, CLUSTERED, ON_A_PLANE, ORDINARY, SPREAD};
 use crate::targets::{DIMENSION, FULL, SMALLER};
 
@@ -24,7 +25,7 @@ impl Plan {
         }
     }
 
-    /// Every workload: the sizes, the dimensions, the other kinds, the hard ones.
+    /// Every workload: the sizes, the screens, the dimensions, the other kinds, the hard ones.
     pub fn measure(&self) -> Vec<Measured> {
         let mut out = Vec::new();
         for n in self.sizes() {
@@ -32,6 +33,7 @@ impl Plan {
             let regions = if few { eight_faces } else { all_regions };
             out.extend(self.shelf(CLUSTERED, DIMENSION, n, regions));
         }
+        out.extend(self.screens());
         if self.quick {
             out.extend(self.shelf(AGAINST_PIVOTS, DIMENSION, FULL, no_region));
             return out;
@@ -50,6 +52,27 @@ impl Plan {
         out
     }
 
+    /// The screen, on the shelf that the targets speak of: regions with none inside, and with the first slot inside.
+    fn screens(&self) -> Vec<Measured> {
+        eprintln!("measuring the screen");
+        let stock = CLUSTERED.stock(DIMENSION, FULL, self.seed);
+        let order = builds::agreed_order(&stock);
+        let shelf = Shelf::new(&stock, &order);
+        let regions = if self.quick {
+            &SCREENED[..2]
+        } else {
+            &SCREENED
+        };
+        let none = regions
+            .iter()
+            .map(|&(h, share)| emptied(&stock, h, share, self.seed));
+        let first = [8, 32].map(|h| first_slot(&stock, &order, h, 0.01, self.seed));
+        let regions = none.chain(first);
+        regions
+            .map(|region| screens::measure(&shelf, &region, 2 * self.rounds))
+            .collect()
+    }
+
     /// One shelf: its build, then each of its regions.
     fn shelf(&self, kind: Kind, k: usize, n: usize, regions: Regions) -> Vec<Measured> {
         eprintln!("measuring {}, k {k}, n {n}", kind.name);
@@ -65,6 +88,17 @@ impl Plan {
         out
     }
 }
+
+/// How many faces the screened regions have, and which share of the shelf they hold before they are emptied.
+const SCREENED: [(usize, f64); 7] = [
+    (8, 0.01),
+    (8, 0.05),
+    (6, 0.01),
+    (6, 0.05),
+    (14, 0.05),
+    (32, 0.01),
+    (32, 0.05),
+];
 
 /// The regions that a shelf is asked for.
 type Regions = fn(&Stock, u64) -> Vec<Region>;

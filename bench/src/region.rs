@@ -21,6 +21,12 @@ fn sum(normal: &[i32], point: &[i32]) -> i64 {
     products.map(|(&a, &b)| i64::from(a) * i64::from(b)).sum()
 }
 
+/// Whether a region holds a point.
+fn holds(region: &Region, point: &[i32]) -> bool {
+    let mut faces = region.normals.chunks(point.len()).zip(&region.offsets);
+    faces.all(|(normal, &offset)| sum(normal, point) >= offset)
+}
+
 /// The length of a normal.
 fn length(normal: &[i32]) -> f64 {
     (sum(normal, normal) as f64).sqrt()
@@ -29,14 +35,34 @@ fn length(normal: &[i32]) -> f64 {
 /// A region of slanted faces, in pairs of opposite ones, that holds this share of the shelf around one of its points.
 pub fn slanted(stock: &Stock, h: usize, share: f64, seed: u64) -> Region {
     let mut numbers = Numbers::new(seed ^ ((h * 8 + stock.k) as u64));
-    let mut normals: Vec<i32> = Vec::new();
-    for _ in 0..h / 2 {
-        let normal = furthest_line(stock.k, &normals, &mut numbers);
-        normals.extend(&normal);
-        normals.extend(normal.iter().map(|component| -component));
-    }
+    let normals = slanted_pairs(stock.k, h, &mut numbers);
     let centre = numbers.below(stock.n);
     around(stock, "slanted", centre, normals, share)
+}
+
+/// A region of slanted faces around the point in the first slot.
+pub fn first_slot(stock: &Stock, order: &[u32], h: usize, share: f64, seed: u64) -> Region {
+    let mut numbers = Numbers::new(seed ^ ((h * 8 + stock.k) as u64));
+    let normals = slanted_pairs(stock.k, h, &mut numbers);
+    let centre = order[0] as usize;
+    around(stock, "slanted, first slot", centre, normals, share)
+}
+
+/// A region of slanted faces whose first pair was moved into the widest gap between the points inside, so that it holds none. The gap is
+/// looked for in the middle half of them.
+pub fn emptied(stock: &Stock, h: usize, share: f64, seed: u64) -> Region {
+    let mut region = slanted(stock, h, share, seed);
+    region.kind = "slanted, emptied";
+    let k = stock.k;
+    let held = stock.points.chunks(k).filter(|point| holds(&region, point));
+    let mut sums: Vec<i64> = held.map(|point| sum(&region.normals[..k], point)).collect();
+    sums.sort_unstable();
+    let middle = &sums[sums.len() / 4..sums.len() - sums.len() / 4];
+    let gaps = middle.windows(2);
+    let widest = gaps.max_by_key(|gap| gap[1] - gap[0]).expect("two points");
+    region.offsets[0] = widest[0] + 1;
+    region.offsets[1] = 1 - widest[1];
+    region
 }
 
 /// A box with two faces across each dimension that holds this share of the shelf around one of its points.
@@ -61,6 +87,17 @@ pub fn one_plane(k: usize) -> Region {
         normals: (0..h).flat_map(|face| vec![face as i32 + 1; k]).collect(),
         offsets: vec![0; h],
     }
+}
+
+/// The normals of so many slanted faces, in pairs of opposite ones.
+fn slanted_pairs(k: usize, h: usize, numbers: &mut Numbers) -> Vec<i32> {
+    let mut normals: Vec<i32> = Vec::new();
+    for _ in 0..h / 2 {
+        let normal = furthest_line(k, &normals, numbers);
+        normals.extend(&normal);
+        normals.extend(normal.iter().map(|component| -component));
+    }
+    normals
 }
 
 /// A slanted line of which no component is small: of some tries the one that is furthest from those before.

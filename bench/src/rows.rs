@@ -1,6 +1,6 @@
 //! The rows of the table: one ratio each.
 
-use crate::measured::{Asked, Measured};
+use crate::measured::{Asked, Call, Measured};
 
 /// One ratio: what the library takes, against what, and what it is to be at most.
 pub struct Row {
@@ -36,7 +36,7 @@ const BUILD_PAIRS: [(&str, &str); 5] = [
     ("check", "build"),
 ];
 
-/// What is compared for a region.
+/// What is compared for a region that is listed.
 const LIST_PAIRS: [(&str, &str); 8] = [
     ("walk", "walk by hand"),
     ("walk", "scan in Rust"),
@@ -48,11 +48,21 @@ const LIST_PAIRS: [(&str, &str); 8] = [
     ("list", "CGAL"),
 ];
 
+/// What is compared for a region that is screened.
+const SCREEN_PAIRS: [(&str, &str); 5] = [
+    ("screen's walk", "walk"),
+    ("screen's walk", "root box by hand"),
+    ("screen's walk", "CGAL, any point"),
+    ("screen", "list"),
+    ("screen", "CGAL, any point"),
+];
+
 /// The rows of one workload, with no target yet.
 pub fn rows(measured: &Measured) -> Vec<Row> {
-    let pairs: &[(&'static str, &'static str)] = match measured.asked {
-        None => &BUILD_PAIRS,
-        Some(_) => &LIST_PAIRS,
+    let pairs: &[(&'static str, &'static str)] = match measured.call {
+        Call::Build => &BUILD_PAIRS,
+        Call::List => &LIST_PAIRS,
+        Call::Screen => &SCREEN_PAIRS,
     };
     let row = |&(call, against): &(&'static str, &'static str)| Row {
         call,

@@ -14,6 +14,7 @@ fn at_most(row: &Row) -> Option<f64> {
         return None;
     }
     let eight = matches!(&row.asked, Some(asked) if asked.h == 8 && asked.kind == "slanted");
+    let emptied = matches!(&row.asked, Some(asked) if asked.inside == 0 && asked.visits >= 200);
     match (row.call, row.against.as_str()) {
         ("build", "nanoflann") => Some(0.5),
         ("build", "CGAL") => Some(0.7),
@@ -22,6 +23,7 @@ fn at_most(row: &Row) -> Option<f64> {
         ("walk", "walk by hand") => Some(1.2),
         ("walk", "scan in Rust" | "scan in C++") if eight => Some(0.5),
         ("list", "scan in Rust" | "scan in C++") if eight => Some(1.5),
+        ("screen's walk", "walk") if emptied => Some(0.9),
         _ => None,
     }
 }

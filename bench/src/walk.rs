@@ -9,7 +9,7 @@ const WIDTH: usize = 24;
 
 /// A box by its two corner rows.
 #[derive(Clone, Copy)]
-struct Rows {
+pub struct Rows {
     low: [i32; 4],
     high: [i32; 4],
 }
@@ -74,7 +74,7 @@ impl Lanes {
 
 /// The least and the greatest coordinate over all points, in each dimension, in one pass as the library makes it: for every k a lane has
 /// coordinates of one dimension.
-fn root_rows(stock: &Stock) -> Rows {
+pub fn root_rows(stock: &Stock) -> Rows {
     let mut lanes = Lanes {
         least: [i32::MAX; WIDTH],
         greatest: [i32::MIN; WIDTH],

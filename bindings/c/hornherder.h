@@ -4,6 +4,7 @@
  *   hornherder_build     arranges points as a shelf
  *   hornherder_check     says whether an order is that shelf
  *   hornherder_list      lists the points inside and outside a region, by way of the shelf
+ *   hornherder_screen    says whether any point is inside a region, and which is the first
  *   hornherder_place     tests one point against a region
  *   hornherder_version   says to which version of this file the library belongs
  *
@@ -42,7 +43,8 @@
  *
  * Cost. A list call checks the order first, as hornherder_check does. On 65,535 points with 8 faces
  * that is about seven tenths of the call on x86-64 and four fifths on Arm; on small shelves less. A
- * check before a list call pays for it twice.
+ * check before a list call pays for it twice. A screen checks the order too, and does no more than a
+ * list call: where one of the first slots is inside, it is little more than that check.
  *
  * Machine. The library is compiled for x86-64 Linux or for Arm (aarch64) Linux, with the calling
  * convention that C compilers use there. Of the C library it needs at most memcpy, memmove and
@@ -65,7 +67,7 @@ extern "C" {
  * and the shared library has behind its name. It rises by one with each change of a name, a layout
  * or the meaning of a number.
  */
-#define HORNHERDER_VERSION 2
+#define HORNHERDER_VERSION 3
 
 /* k, how many coordinates a point has. */
 #define HORNHERDER_MIN_DIMENSION 1
@@ -148,6 +150,14 @@ typedef struct {
     uint32_t visits;  /* how many slots are open, see hornherder_list */
 } hornherder_listing;
 
+/* What hornherder_screen answers. */
+typedef struct {
+    uint32_t code;   /* HORNHERDER_DONE, or the refusal */
+    uint32_t found;  /* 1: a point is inside; 0: none is, or the call was refused */
+    uint32_t number; /* the first point inside, in shelf order; 0 where none is found */
+    uint32_t visits; /* how many slots up to that one are open, see hornherder_screen */
+} hornherder_screening;
+
 /* What hornherder_place answers. */
 typedef struct {
     uint32_t code;   /* HORNHERDER_DONE, or the refusal */
@@ -217,6 +227,29 @@ hornherder_listing hornherder_list(size_t k, size_t n, size_t h, const int32_t *
                                    const int32_t *normals, size_t normals_len,
                                    const int64_t *offsets, size_t offsets_len, uint32_t *list,
                                    size_t list_len);
+
+/*
+ * Says whether any point of a shelf is inside a region, and which is the first in shelf order. It
+ * stops as soon as it has one, and writes nothing. The order is checked first.
+ *
+ *   points   k * n coordinates, each -32,768 to 32,767
+ *   order    at least n places; the first n must be the shelf of these points
+ *   normals  k * h components, each -32,767 to 32,767
+ *   offsets  h offsets, each -8,589,934,592 to 8,589,934,592
+ *
+ * Found is 1 exactly where hornherder_list, called with the same, counts a point inside, and the
+ * number is then its list[0]. Point 0 may be the one that is found: ask found, and not the number.
+ *
+ * The visits are the open slots, as hornherder_list says, among those up to and including the found
+ * one; all open slots where none is found. They are counted by slot: a node to the right of the
+ * found slot is not counted, though the way to that slot may lead through it.
+ *
+ * Answers HORNHERDER_DONE with found, number and visits, or a refusal, 1 to 9, with zeros.
+ */
+hornherder_screening hornherder_screen(size_t k, size_t n, size_t h, const int32_t *points,
+                                       size_t points_len, const uint32_t *order, size_t order_len,
+                                       const int32_t *normals, size_t normals_len,
+                                       const int64_t *offsets, size_t offsets_len);
 
 /*
  * Tests one point against a region.

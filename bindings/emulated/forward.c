@@ -90,7 +90,7 @@ static void take_back(const lent *buffer, size_t size)
     free(after);
 }
 
-/* Passes a call on, and its answer and buffers back. */
+/* Passes a call on, and its buffers and its answer back, the numbers of the answer as those of a listing. */
 static hornherder_listing forward(int call, size_t k, size_t n, size_t h, const lent *buffers)
 {
     wire_request request = {(uint64_t)call, k, n, h, {0}, {0}};
@@ -133,6 +133,17 @@ hornherder_listing hornherder_list(size_t k, size_t n, size_t h, const int32_t *
     const lent buffers[WIRE_BUFFERS] = {
         {points, points_len, 0}, {order, order_len, 0}, {normals, normals_len, 0}, {offsets, offsets_len, 0}, {list, list_len, 1}};
     return forward(WIRE_LIST, k, n, h, buffers);
+}
+
+hornherder_screening hornherder_screen(size_t k, size_t n, size_t h, const int32_t *points, size_t points_len, const uint32_t *order,
+                                       size_t order_len, const int32_t *normals, size_t normals_len, const int64_t *offsets,
+                                       size_t offsets_len)
+{
+    const lent buffers[WIRE_BUFFERS] = {
+        {points, points_len, 0}, {order, order_len, 0}, {normals, normals_len, 0}, {offsets, offsets_len, 0}};
+    hornherder_listing answer = forward(WIRE_SCREEN, k, n, h, buffers);
+    hornherder_screening screening = {answer.code, answer.inside, answer.outside, answer.visits};
+    return screening;
 }
 
 hornherder_placing hornherder_place(size_t k, size_t h, const int32_t *point, size_t point_len, const int32_t *normals,

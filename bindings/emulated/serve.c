@@ -73,7 +73,7 @@ static void look_at_stack(void)
             _exit(1);
 }
 
-/* Makes the call of a request with these buffers. */
+/* Makes the call of a request with these buffers. Every answer has at most the four numbers of a listing, and goes back as one. */
 static hornherder_listing call(const wire_request *r, void **b)
 {
     const int32_t *points = (const int32_t *)b[WIRE_POINTS], *normals = (const int32_t *)b[WIRE_NORMALS];
@@ -81,6 +81,7 @@ static hornherder_listing call(const wire_request *r, void **b)
     uint32_t *order = (uint32_t *)b[WIRE_ORDER], *list = (uint32_t *)b[WIRE_LIST_BUFFER];
     const uint64_t *length = r->length;
     hornherder_listing answer = {0, 0, 0, 0};
+    hornherder_screening screening;
     hornherder_placing placing;
     switch (r->call) {
     case WIRE_BUILD:
@@ -92,6 +93,14 @@ static hornherder_listing call(const wire_request *r, void **b)
     case WIRE_LIST:
         return hornherder_list(r->k, r->n, r->h, points, length[WIRE_POINTS], order, length[WIRE_ORDER], normals,
                                length[WIRE_NORMALS], offsets, length[WIRE_OFFSETS], list, length[WIRE_LIST_BUFFER]);
+    case WIRE_SCREEN:
+        screening = hornherder_screen(r->k, r->n, r->h, points, length[WIRE_POINTS], order, length[WIRE_ORDER], normals,
+                                      length[WIRE_NORMALS], offsets, length[WIRE_OFFSETS]);
+        answer.code = screening.code;
+        answer.inside = screening.found;
+        answer.outside = screening.number;
+        answer.visits = screening.visits;
+        return answer;
     case WIRE_PLACE:
         placing = hornherder_place(r->k, r->h, points, length[WIRE_POINTS], normals, length[WIRE_NORMALS], offsets,
                                    length[WIRE_OFFSETS]);

@@ -8,7 +8,7 @@
 #include "../c/hornherder.h"
 
 /* The calls. */
-enum { WIRE_BUILD, WIRE_CHECK, WIRE_LIST, WIRE_PLACE, WIRE_VERSION };
+enum { WIRE_BUILD, WIRE_CHECK, WIRE_LIST, WIRE_SCREEN, WIRE_PLACE, WIRE_VERSION };
 
 /* The buffers. A call that has no such buffer lends it as NULL and 0; hornherder_place has its point in the first. */
 enum { WIRE_POINTS, WIRE_ORDER, WIRE_NORMALS, WIRE_OFFSETS, WIRE_LIST_BUFFER, WIRE_BUFFERS };

@@ -98,6 +98,76 @@ fn same_behind(lent: &Lent, answer: raw::Listing, ours: &Lent) {
     }
 }
 
+/// Compares screen, also with other numbers behind place n, and holds it to what list answers.
+pub fn screen(lent: &Lent) -> raw::Screening {
+    let ours = lent.clone();
+    let answer = screened(&ours);
+    let expected = second::screen(
+        lent.k,
+        lent.n,
+        lent.h,
+        &lent.points,
+        &lent.order,
+        &lent.normals,
+        &lent.offsets,
+    );
+    let numbers = (answer.code, answer.found, answer.number, answer.visits);
+    let theirs_numbers = (
+        expected.code,
+        expected.found,
+        expected.number,
+        expected.visits,
+    );
+    assert_eq!(numbers, theirs_numbers, "screen of {lent:?}");
+    same_lent("screen", lent, &ours, lent);
+    let again = screened(&lent.with_other_marks());
+    assert_eq!(
+        again, answer,
+        "screen by what is behind place n of {lent:?}"
+    );
+    first_of_list(lent, answer);
+    if answer.code == 0 {
+        bounds::hold(lent, answer.visits);
+    }
+    answer
+}
+
+/// Calls the library's screen.
+fn screened(lent: &Lent) -> raw::Screening {
+    raw::screen(
+        lent.k,
+        lent.n,
+        lent.h,
+        &lent.points,
+        &lent.order,
+        &lent.normals,
+        &lent.offsets,
+    )
+}
+
+/// Asks that screen answers by the list call with room in its buffer: the same refusal, else the first entry of its inside list and no
+/// more visits, or that there is none and all the visits.
+fn first_of_list(lent: &Lent, answer: raw::Screening) {
+    let mut roomy = lent.clone();
+    roomy.list = vec![0; lent.n.min(65_535)];
+    let (listing, after) = listed(&roomy);
+    let first = after.list[..listing.inside as usize].first();
+    assert_eq!(answer.code, listing.code, "screen by list of {lent:?}");
+    assert_eq!(
+        (answer.found, answer.number),
+        first.map_or((0, 0), |number| (1, *number)),
+        "screen by the inside list of {lent:?}"
+    );
+    let most = listing.visits;
+    assert!(
+        answer.visits <= most,
+        "screen by the visits {most} of {lent:?}"
+    );
+    if answer.found == 0 {
+        assert_eq!(answer.visits, most, "screen by the visits of {lent:?}");
+    }
+}
+
 /// Compares the one-point test.
 pub fn place(lent: &Lent) -> raw::Placing {
     let ours = lent.clone();

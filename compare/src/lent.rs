@@ -3,7 +3,7 @@
 use crate::chance::Chance;
 use std::fmt;
 
-/// The arguments of all four calls: build and check take the first part, the one-point test the point.
+/// The arguments of all calls: build and check take the first part, the screen all but the list buffer, the one-point test the point.
 #[derive(Clone, PartialEq, Eq)]
 pub struct Lent {
     pub k: usize,

@@ -7,4 +7,5 @@ pub mod chance;
 pub mod damage;
 pub mod faces;
 pub mod lent;
+pub mod seen;
 pub mod stock;

@@ -1,5 +1,5 @@
-//! Orders damaged in every way: the answer of check and of list is the second program's, and nothing is
-//! written.
+//! Orders damaged in every way: the answer of check, of list and of screen is the second program's, and
+//! nothing is written.
 
 use compare::calls;
 use compare::cases;
@@ -20,11 +20,12 @@ fn shelf(chance: &mut Chance, k: usize) -> Lent {
     calls::shelf(&Lent::new(chance, k, points)).with_faces(normals, offsets)
 }
 
-/// Compares check and list on a damaged order, and says whether it was refused.
+/// Compares check, list and screen on a damaged order, and says whether it was refused.
 fn refused(shelf: &Lent, order: &[u32]) -> bool {
     let damaged = shelf.with_order(order);
     let code = calls::check(&damaged);
     assert_eq!(calls::list(&damaged).0.code, code);
+    assert_eq!(calls::screen(&damaged).code, code);
     assert_eq!(code == 9, order != &shelf.order[..shelf.n]);
     code == 9
 }
@@ -62,6 +63,7 @@ fn all_contents() {
             let call = shelf.with_order(order);
             let code = calls::check(&call);
             assert_eq!(calls::list(&call).0.code, code);
+            assert_eq!(calls::screen(&call).code, code);
             code == 0
         });
         assert_eq!(accepted.count(), 1);

@@ -27,12 +27,20 @@ fn full_shelves() {
         let (answer, _) = calls::list(&call);
         assert_eq!(answer.code, 0);
         nearness.look(&call, answer.visits);
+        assert_eq!(calls::screen(&call).code, 0);
         let (_, make) = chance.one_of(&damage::ALL);
         let mut slots = shelf.order[..N].to_vec();
         make(chance, &mut slots);
         calls::check(&shelf.with_order(&slots));
     });
     println!("full shelves: {nearness}");
+}
+
+/// As many faces as are allowed, which all lie on one plane and leave nothing between them: a screen finds nothing and goes down every branch
+/// that the plane cuts.
+fn empty_on_a_plane(k: usize) -> (Vec<i32>, Vec<i64>) {
+    let (up, down) = (vec![1; k], vec![-1; k]);
+    ([up, down].concat().repeat(16), [1, 0].repeat(16))
 }
 
 /// The deepest calls there are need no more stack than the header says.
@@ -60,6 +68,10 @@ fn stack() {
             assert_eq!(answer.code, 0);
             assert!(answer.visits > 0);
             assert_eq!(raw::place(k, 32, &points[..k], &normals, &[0; 32]).code, 0);
+            let (normals, offsets) = empty_on_a_plane(k);
+            let answer = raw::screen(k, N, 32, &points, &order, &normals, &offsets);
+            assert_eq!((answer.code, answer.found), (0, 0));
+            assert!(answer.visits > 0);
         }
     };
     let small = thread::Builder::new().stack_size(raw::STACK_BYTES);

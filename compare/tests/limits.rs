@@ -17,12 +17,16 @@ fn right(chance: &mut Chance, k: usize, n: usize, h: usize) -> Lent {
     calls::shelf(&lent).with_faces(vec![1; k * h], vec![0; h])
 }
 
-/// Asks what build, check, list and the one-point test answer, with the second program as everywhere.
+/// Asks what build, check, list and the one-point test answer, with the second program as everywhere. The screen
+/// answers as list does where the list buffer, which it does not take, has room.
 fn answers(lent: &Lent, build: u32, check: u32, list: u32, place: u32) {
     assert_eq!(calls::build(lent).0, build, "build of {lent:?}");
     assert_eq!(calls::check(lent), check, "check of {lent:?}");
     assert_eq!(calls::list(lent).0.code, list, "list of {lent:?}");
     assert_eq!(calls::place(lent).code, place, "place of {lent:?}");
+    if lent.list.len() >= lent.n {
+        assert_eq!(calls::screen(lent).code, list, "screen of {lent:?}");
+    }
 }
 
 /// k 1 and 4 pass, 0 and 5 do not.
@@ -147,6 +151,7 @@ fn no_points() {
             let lent = right(&mut chance, k, 0, h);
             answers(&lent, 0, 0, 0, 0);
             assert_eq!(calls::list(&lent).0, hornherder::raw::Listing::default());
+            assert_eq!(calls::screen(&lent), hornherder::raw::Screening::default());
         }
     }
 }

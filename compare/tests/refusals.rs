@@ -5,14 +5,17 @@ use compare::cases;
 use compare::chance::Chance;
 use compare::faces;
 use compare::lent::{shorten, Lent};
+use compare::seen::Seen;
 
 /// The calls, as parts of a sum.
 const BUILD: u8 = 1;
 const CHECK: u8 = 2;
 const LIST: u8 = 4;
 const PLACE: u8 = 8;
-const SHELF: u8 = BUILD | CHECK | LIST;
-const REGION: u8 = LIST | PLACE;
+const SCREEN: u8 = 16;
+const SHELF: u8 = BUILD | CHECK | LIST | SCREEN;
+const REGION: u8 = LIST | PLACE | SCREEN;
+const ORDER: u8 = CHECK | LIST | SCREEN;
 
 /// A fault: the number that it is refused with, the calls that refuse it, and how it is made.
 type Fault = (u32, u8, fn(&mut Lent));
@@ -48,10 +51,10 @@ const FAULTS: [Fault; 33] = [
     (8, REGION, |lent| last(&mut lent.normals, 32_768)),
     (8, REGION, |lent| first(&mut lent.offsets, 8_589_934_593)),
     (8, REGION, |lent| last(&mut lent.offsets, i64::MIN)),
-    (9, CHECK | LIST, |lent| lent.order.reverse()),
-    (9, CHECK | LIST, |lent| first(&mut lent.order, 3)),
-    (9, CHECK | LIST, |lent| first(&mut lent.order, u32::MAX)),
-    (9, CHECK | LIST, |lent| {
+    (9, ORDER, |lent| lent.order.reverse()),
+    (9, ORDER, |lent| first(&mut lent.order, 3)),
+    (9, ORDER, |lent| first(&mut lent.order, u32::MAX)),
+    (9, ORDER, |lent| {
         let number = lent.order.get(1).copied().unwrap_or(0);
         first(&mut lent.order, number)
     }),
@@ -94,49 +97,57 @@ fn lowest(faults: &[Fault], call: u8) -> Option<u32> {
     }
 }
 
-/// Compares all four calls on a right call with these faults, and the numbers with the lowest fault's.
-fn refused(right: &Lent, faults: &[Fault]) {
+/// Compares all calls on a right call with these faults, and the numbers with the lowest fault's. Gives what the screen
+/// answers.
+fn refused(right: &Lent, faults: &[Fault]) -> u32 {
     let mut lent = right.clone();
     for (_, _, make) in faults {
         make(&mut lent);
     }
+    let screen = calls::screen(&lent).code;
     let answers = [
         (BUILD, calls::build(&lent).0),
         (CHECK, calls::check(&lent)),
         (LIST, calls::list(&lent).0.code),
         (PLACE, calls::place(&lent).code),
+        (SCREEN, screen),
     ];
     for (call, code) in answers {
         if let Some(number) = lowest(faults, call) {
             assert_eq!(code, number, "call {call} of {lent:?}");
         }
     }
+    screen
 }
 
 /// No fault, and each by itself.
 #[test]
 fn one_fault() {
+    let mut seen = Seen::new(0..=9);
     cases::make("one fault", 40, |chance, case| {
         let right = right(chance, 1 + case % 4);
-        refused(&right, &[]);
+        seen.count(refused(&right, &[]));
         for fault in FAULTS {
-            refused(&right, &[fault]);
+            seen.count(refused(&right, &[fault]));
         }
     });
+    seen.enough("one fault, of the screen");
 }
 
 /// Every two and every three faults at once, in each dimension.
 #[test]
 fn two_or_three_faults() {
+    let mut seen = Seen::new(0..=9);
     cases::make("two or three faults", 4, |chance, case| {
         let right = right(chance, 1 + case % 4);
         for (a, first) in FAULTS.iter().enumerate() {
             for (b, second) in FAULTS.iter().enumerate().skip(a + 1) {
-                refused(&right, &[*first, *second]);
+                seen.count(refused(&right, &[*first, *second]));
                 for third in &FAULTS[b + 1..] {
-                    refused(&right, &[*first, *second, *third]);
+                    seen.count(refused(&right, &[*first, *second, *third]));
                 }
             }
         }
     });
+    seen.enough("two or three faults, of the screen");
 }

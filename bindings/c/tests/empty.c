@@ -9,6 +9,12 @@ static int is(hornherder_listing answer, uint32_t code)
     return answer.code == code && answer.inside == 0 && answer.outside == 0 && answer.visits == 0;
 }
 
+/* 1 where a screening has this code and zeros. */
+static int finds_nothing(hornherder_screening answer, uint32_t code)
+{
+    return answer.code == code && answer.found == 0 && answer.number == 0 && answer.visits == 0;
+}
+
 int main(void)
 {
     const int32_t zero[HORNHERDER_MAX_DIMENSION] = {0, 0, 0, 0};
@@ -20,11 +26,14 @@ int main(void)
         right &= hornherder_build(k, 0, NULL, 0, NULL, 0) == HORNHERDER_DONE;
         right &= hornherder_check(k, 0, NULL, 0, NULL, 0) == HORNHERDER_DONE;
         right &= is(hornherder_list(k, 0, 0, NULL, 0, NULL, 0, NULL, 0, NULL, 0, NULL, 0), HORNHERDER_DONE);
+        right &= finds_nothing(hornherder_screen(k, 0, 0, NULL, 0, NULL, 0, NULL, 0, NULL, 0), HORNHERDER_DONE);
         right &= inside.code == HORNHERDER_DONE && inside.inside == 1;
         right &= none.code == HORNHERDER_POINTS_LENGTH && none.inside == 0;
         right &= hornherder_build(k, 1, zero, k, NULL, 0) == HORNHERDER_SHORT_BUFFER;
         right &= hornherder_check(k, 1, NULL, 0, NULL, 0) == HORNHERDER_POINTS_LENGTH;
         right &= is(hornherder_list(k, 0, 1, NULL, 0, NULL, 0, NULL, 0, NULL, 0, NULL, 0), HORNHERDER_FACES_LENGTH);
+        right &= finds_nothing(hornherder_screen(k, 1, 0, zero, k, NULL, 0, NULL, 0, NULL, 0), HORNHERDER_SHORT_BUFFER);
+        right &= finds_nothing(hornherder_screen(k, 0, 1, NULL, 0, NULL, 0, NULL, 0, NULL, 0), HORNHERDER_FACES_LENGTH);
     }
     puts(right ? "right" : "wrong");
     return 0;

@@ -3,8 +3,8 @@
 //! The work is done by the archive `libhornherder.a`, whose every call is proved to give exactly the
 //! answer that its definitions say. This crate has two layers:
 //!
-//! - [`Shelf`], [`Region`] and [`Listing`], which derive the numbers of points and of faces and give each
-//!   refusal as a [`Refusal`];
+//! - [`Shelf`], [`Region`], [`Listing`] and [`Screening`], which derive the numbers of points and of faces
+//!   and give each refusal as a [`Refusal`];
 //! - [`raw`], the calls themselves with every number and slice as given.
 //!
 //! ```
@@ -24,6 +24,9 @@
 //! assert_eq!(listing.inside(), [2, 4]);
 //! assert!(listing.outside().eq([1, 5, 0, 3]));
 //! assert_eq!(listing.visits(), 5);
+//!
+//! // Is any point inside at all? The first in shelf order says so, and the call stops there.
+//! assert_eq!(shelf.screen(&region)?.found(), Some(2));
 //! # Ok::<(), hornherder::Refusal>(())
 //! ```
 //!
@@ -32,7 +35,8 @@
 //!
 //! What a call costs: a list call checks the order first. On 65,535 points with 8 faces that is about
 //! seven tenths of the call on x86-64 and four fifths on Arm; on small shelves less. A check before a list
-//! call pays for it twice.
+//! call pays for it twice. A screen checks the order too, and does no more than a list call: where one of
+//! the first slots is inside, it is little more than that check.
 //!
 //! The library keeps no state, so any number of threads may call at once. A call needs less than
 //! [`raw::STACK_BYTES`] of stack.
@@ -43,11 +47,13 @@ mod listing;
 pub mod raw;
 mod refusal;
 mod region;
+mod screening;
 mod shelf;
 
 pub use listing::{Listing, Outside};
 pub use refusal::Refusal;
 pub use region::Region;
+pub use screening::Screening;
 pub use shelf::Shelf;
 
 /// The example of the README, run with the others.

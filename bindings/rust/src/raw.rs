@@ -17,12 +17,14 @@
 //! let mut list = [0; 2];
 //! let answer = raw::list(1, 2, 1, &points, &order, &[1], &[5], &mut list);
 //! assert_eq!((answer.inside, answer.outside, answer.visits), (1, 1, 2));
+//! let answer = raw::screen(1, 2, 1, &points, &order, &[1], &[5]);
+//! assert_eq!((answer.found, answer.number, answer.visits), (1, 1, 2));
 //! assert_eq!(raw::place(5, 0, &[], &[], &[]).code, 1);
 //! assert_eq!(raw::version(), raw::VERSION);
 //! ```
 
 /// The version of the calls and of the archive: the header's `HORNHERDER_VERSION`.
-pub const VERSION: u32 = 2;
+pub const VERSION: u32 = 3;
 
 /// The stack that is enough for any call, in bytes.
 pub const STACK_BYTES: usize = 32_768;
@@ -39,6 +41,22 @@ pub struct Listing {
     /// How many points are outside.
     pub outside: u32,
     /// How many slots are open.
+    pub visits: u32,
+}
+
+/// What [`screen`] answers.
+#[must_use]
+#[repr(C)]
+#[derive(Clone, Copy, Debug, Default, PartialEq, Eq)]
+pub struct Screening {
+    /// 0 for done, or the number of the refusal.
+    pub code: u32,
+    /// 1 where a point is inside, else 0.
+    pub found: u32,
+    /// The number of the first point inside, in shelf order; 0 where none is found.
+    pub number: u32,
+    /// How many slots are open among those up to and including the found one; of all slots where none is
+    /// found.
     pub visits: u32,
 }
 
@@ -87,6 +105,20 @@ extern "C" {
         list: *mut u32,
         list_len: usize,
     ) -> Listing;
+
+    fn hornherder_screen(
+        k: usize,
+        n: usize,
+        h: usize,
+        points: *const i32,
+        points_len: usize,
+        order: *const u32,
+        order_len: usize,
+        normals: *const i32,
+        normals_len: usize,
+        offsets: *const i64,
+        offsets_len: usize,
+    ) -> Screening;
 
     fn hornherder_place(
         k: usize,
@@ -167,6 +199,35 @@ pub fn list(
             offsets.len(),
             list.as_mut_ptr(),
             list.len(),
+        )
+    }
+}
+
+/// Gives the first number inside, in shelf order, or says that there is none; it stops as soon as it has
+/// one. The order is checked first. Refusals: 1 to 9.
+pub fn screen(
+    k: usize,
+    n: usize,
+    h: usize,
+    points: &[i32],
+    order: &[u32],
+    normals: &[i32],
+    offsets: &[i64],
+) -> Screening {
+    // SAFETY: as said above.
+    unsafe {
+        hornherder_screen(
+            k,
+            n,
+            h,
+            points.as_ptr(),
+            points.len(),
+            order.as_ptr(),
+            order.len(),
+            normals.as_ptr(),
+            normals.len(),
+            offsets.as_ptr(),
+            offsets.len(),
         )
     }
 }

@@ -4,6 +4,7 @@ use crate::listing::Listing;
 use crate::raw;
 use crate::refusal::{done, same_version, Refusal};
 use crate::region::Region;
+use crate::screening::Screening;
 use std::borrow::Cow;
 
 /// Points arranged as a k-d tree. Whatever its history, its order is the tree of its points.
@@ -131,6 +132,37 @@ impl<'s> Shelf<'s> {
         done(answer.code)?;
         let (inside, outside) = buffer[..self.len()].split_at(answer.inside as usize);
         Ok(Listing::new(inside, outside, answer.visits))
+    }
+
+    /// Finds the first point inside a region, in shelf order, or says that there is none. It stops as soon
+    /// as it has one and needs no buffer.
+    ///
+    /// ```
+    /// use hornherder::{Region, Shelf};
+    ///
+    /// let shelf = Shelf::build(1, vec![30, 10, 20])?;
+    /// for (least, found) in [(10, Some(1)), (20, Some(2)), (31, None)] {
+    ///     let region = Region::everywhere(1)?.with_face(&[1], least)?;
+    ///     assert_eq!(shelf.screen(&region)?.found(), found);
+    /// }
+    /// # Ok::<(), hornherder::Refusal>(())
+    /// ```
+    ///
+    /// Refused are faces made for another dimension. The order is checked first, as in
+    /// [`list`](Shelf::list).
+    pub fn screen(&self, region: &Region) -> Result<Screening, Refusal> {
+        let answer = raw::screen(
+            self.k,
+            self.len(),
+            region.h(),
+            &self.points,
+            &self.order,
+            region.normals(),
+            region.offsets(),
+        );
+        done(answer.code)?;
+        let found = (answer.found == 1).then_some(answer.number);
+        Ok(Screening::new(found, answer.visits))
     }
 }
 

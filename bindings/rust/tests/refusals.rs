@@ -75,6 +75,14 @@ fn of_list() {
     assert_eq!(buffer, [70, 71, 72]);
 }
 
+/// Screening meets 7.
+#[test]
+fn of_screen() {
+    let shelf = Shelf::build(2, vec![1, 2, 3, 4]).unwrap();
+    let other = shelf.screen(&faces(1).unwrap());
+    assert_eq!(other, Err(Refusal::FacesLength));
+}
+
 /// A row of the README's table: its number, when it is given, and the likely cause.
 fn row(line: &str) -> Option<(u32, &str, &str)> {
     let cells: Vec<_> = line.split('|').map(str::trim).collect();

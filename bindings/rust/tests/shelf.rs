@@ -65,6 +65,33 @@ fn buffer_used_again() {
     }
 }
 
+/// A screening has the first number inside, or none, and the visits up to it.
+#[test]
+fn first_inside() {
+    let shelf = Shelf::build(2, &A[..]).unwrap();
+    let screening = shelf.screen(&two_faces()).unwrap();
+    assert_eq!((screening.found(), screening.visits()), (Some(2), 3));
+    for (offset, found, visits) in [(1, Some(1), 0), (5, Some(3), 2), (8, None, 0)] {
+        let region = Region::everywhere(2).unwrap();
+        let region = region.with_face(&[1, 0], offset).unwrap();
+        let screening = shelf.screen(&region).unwrap();
+        assert_eq!((screening.found(), screening.visits()), (found, visits));
+    }
+}
+
+/// Number 0 found is not the same as none, and none may have cost visits.
+#[test]
+fn number_0_or_none() {
+    let shelf = Shelf::build(1, vec![0, 10]).unwrap();
+    for (least, greatest, found, visits) in
+        [(-1, 5, Some(0), 1), (4, 6, None, 2), (11, 12, None, 0)]
+    {
+        let region = Region::new(1, vec![1, -1], vec![least, -greatest]).unwrap();
+        let screening = shelf.screen(&region).unwrap();
+        assert_eq!((screening.found(), screening.visits()), (found, visits));
+    }
+}
+
 /// The empty shelf lists nothing, and asks for no buffer.
 #[test]
 fn empty_shelf() {
@@ -75,6 +102,8 @@ fn empty_shelf() {
         let listing = shelf.list(&region, &mut []).unwrap();
         assert!(listing.inside().is_empty());
         assert_eq!((listing.outside().len(), listing.visits()), (0, 0));
+        let screening = shelf.screen(&region).unwrap();
+        assert_eq!((screening.found(), screening.visits()), (None, 0));
     }
 }
 
@@ -100,6 +129,10 @@ fn many_threads() {
         let mut buffer = vec![0; shelf.len()];
         let listing = shelf.list(&region, &mut buffer).unwrap();
         assert_eq!(raw::check(3, 1000, &points, shelf.order()), 0);
+        assert_eq!(
+            shelf.screen(&region).unwrap().found(),
+            listing.inside().first().copied()
+        );
         (listing.visits(), listing.inside().to_vec())
     };
     let first = work();

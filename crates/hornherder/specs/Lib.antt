@@ -6,5 +6,7 @@ pub mod CheckOutcome
 pub mod CheckPromises
 pub mod ListOutcome
 pub mod ListPromises
+pub mod ScreenOutcome
+pub mod ScreenPromises
 pub mod PlaceOutcome
 pub mod PlacePromises

@@ -11,6 +11,7 @@ use Rattle.whole.specs.Order.{lesser, greater}
 use Rattle.whole.specs.IndexedSum.{sumTo}
 use Rattle.whole.specs.IndexedTotal.{totalTo}
 use Rattle.terms.specs.declared.Listing.{Listing}
+use Rattle.terms.specs.declared.Screening.{Screening}
 use Rattle.terms.specs.declared.Placing.{Placing}
 use Rattle.terms.specs.Tests.{count, every, keep, allTo, anyTo, rising}
 use Rattle.terms.specs.Lent.{Stock, Order, Faces, stock, orderOf, faces}
@@ -25,6 +26,8 @@ use Rattle.terms.specs.Refusals.{firstOf}
 use Rattle.terms.specs.BuildCall.{Built, buildAnswer}
 use Rattle.terms.specs.CheckCall.{checkAnswer}
 use Rattle.terms.specs.ListCall.{listCode, listAnswer, listAfter}
+use Rattle.terms.specs.Screen.{insideSlots, upToFirst, screenVisits}
+use Rattle.terms.specs.ScreenCall.{screenCode, screenAnswer}
 use Rattle.terms.specs.PlaceCall.{placeCode, placeAnswer}
 
 -- A negative number as one writes it.
@@ -61,6 +64,7 @@ pub data Row : Type 0 where
   builds : Shelf → (answer : ℕ) (after : List ℕ) → Row
   checks : Shelf → (answer : ℕ) → Row
   lists : Shelf → Faces → (list : List ℕ) (answer : Listing) (after : List ℕ) → Row
+  screens : Shelf → Faces → Screening → Row
   tests : (k : ℕ) (point : List ℤ) → Faces → Placing → Row
   opens : Shelf → Faces → List Bool → Row
   boxed : Shelf → (slot : ℕ) (sides : List (List ℤ)) → Row
@@ -75,6 +79,7 @@ Holds (builds s answer after) = Built (s .lent) (s .arranged) answer (orderOf af
 Holds (checks s answer) = checkAnswer (s .lent) (s .arranged) ≡ answer
 Holds (lists s f list answer after) =
     (listAnswer (s .lent) (s .arranged) f list ≡ answer) × (listAfter (s .lent) (s .arranged) f list ≡ after)
+Holds (screens s f answer) = screenAnswer (s .lent) (s .arranged) f ≡ answer
 Holds (tests k point f answer) = placeAnswer k point f ≡ answer
 Holds (opens s f open-slots) = openSlots (cut s f) (pointOf (s .lent)) (slots s) ≡ open-slots
 Holds (boxed s slot sides) = spans (s .lent .k) (getD (shelfBoxes (s .lent .k) (pointOf (s .lent)) (slots s)) slot (rootBox (coord 0 []) [])) ≡ sides
@@ -105,6 +110,16 @@ counts inside outside visits = record { code = 0; inside = inside; outside = out
 -- The answer of a list call that is refused.
 abbrev refusal : ℕ → Listing
 refusal c = record { code = c; inside = 0; outside = 0; visits = 0 }
+
+-- The answer of a screen that found a number, that found none, or that is refused.
+abbrev finds : ℕ → ℕ → Screening
+finds number visits = record { code = 0; found = 1; number = number; visits = visits }
+
+abbrev findsNone : ℕ → Screening
+findsNone visits = record { code = 0; found = 0; number = 0; visits = visits }
+
+abbrev unscreened : ℕ → Screening
+unscreened c = record { code = c; found = 0; number = 0; visits = 0 }
 
 -- The answer of a test of one point.
 abbrev answers : ℕ → ℕ → Placing
@@ -662,6 +677,80 @@ list-refuses-n = lists tooMany fromFive (3 ∷ []) (refusal 2) (3 ∷ [])
 
 -- ---- the statement
 
+-- ---- the screen
+
+-- From 3 to 7.
+abbrev between : Faces
+between = faces 2 (pos 1 ∷ minus 1 ∷ []) (pos 3 ∷ minus 7 ∷ [])
+
+-- The screen of the two faces: number 2 in slot 3, after the open slots 1, 2 and 3 itself.
+abbrev pub screen-two-faces : Row
+screen-two-faces = screens shelfA twoFaces (finds 2 3)
+
+-- Number 3 in slot 4. Slots 3 and 4 count; slot 5 is open and the node above slot 4, but stands after it.
+abbrev pub screen-node-to-the-right : Row
+screen-node-to-the-right = screens shelfA rightOfFive (finds 3 2)
+
+-- All inside, a whole branch: its first slot, no visits.
+abbrev pub screen-all : Row
+screen-all = screens shelfA rightOfOne (finds 1 0)
+
+-- None inside, no visits.
+abbrev pub screen-none : Row
+screen-none = screens shelfA rightOfEight (findsNone 0)
+
+-- No faces: the first slot.
+abbrev pub screen-no-faces : Row
+screen-no-faces = screens shelfA noFaces (finds 1 0)
+
+-- The last slot alone is inside: both slots are open.
+abbrev pub screen-last-slot : Row
+screen-last-slot = screens pair fromFive (finds 1 2)
+
+-- None inside, and every open slot is counted.
+abbrev pub screen-between : Row
+screen-between = screens pair between (findsNone 2)
+
+-- The empty shelf has none.
+abbrev pub screen-empty : Row
+screen-empty = screens empty slantedInThree (findsNone 0)
+
+-- 1 of a screen, before 2.
+abbrev pub screen-refuses-dimension : Row
+screen-refuses-dimension = screens fiveDimensions fromFive (unscreened 1)
+
+-- 2 of a screen, before 3.
+abbrev pub screen-refuses-n : Row
+screen-refuses-n = screens tooMany fromFive (unscreened 2)
+
+-- 3 of a screen, before 4.
+abbrev pub screen-refuses-points : Row
+screen-refuses-points = screens wrongPoints fromFive (unscreened 3)
+
+-- 4 of a screen, for a short order, before 5.
+abbrev pub screen-refuses-short-order : Row
+screen-refuses-short-order = screens shortOrder fromFive (unscreened 4)
+
+-- 5 of a screen, before 6.
+abbrev pub screen-refuses-coordinate : Row
+screen-refuses-coordinate = screens coordinateTooHigh tooManyFaces (unscreened 5)
+
+-- 6 of a screen, before 7.
+abbrev pub screen-refuses-h : Row
+screen-refuses-h = screens pair tooManyFaces (unscreened 6)
+
+-- 7 of a screen, before 8.
+abbrev pub screen-refuses-normals : Row
+screen-refuses-normals = screens pair wrongNormals (unscreened 7)
+
+-- 8 of a screen, before 9.
+abbrev pub screen-refuses-component : Row
+screen-refuses-component = screens pairSwapped componentTooLow (unscreened 8)
+
+-- 9 of a screen, last.
+abbrev pub screen-refuses-order : Row
+screen-refuses-order = screens pairSwapped fromFive (unscreened 9)
+
 -- The table.
 abbrev pub table : List Row
 table =
@@ -745,11 +834,28 @@ table =
     ∷ list-refuses-n
     ∷ list-refuses-points
     ∷ list-refuses-short-order
+    ∷ screen-two-faces
+    ∷ screen-node-to-the-right
+    ∷ screen-all
+    ∷ screen-none
+    ∷ screen-no-faces
+    ∷ screen-last-slot
+    ∷ screen-between
+    ∷ screen-empty
+    ∷ screen-refuses-dimension
+    ∷ screen-refuses-n
+    ∷ screen-refuses-points
+    ∷ screen-refuses-short-order
+    ∷ screen-refuses-coordinate
+    ∷ screen-refuses-h
+    ∷ screen-refuses-normals
+    ∷ screen-refuses-component
+    ∷ screen-refuses-order
     ∷ []
 
 -- Every row holds of the calls as they are defined.
 pub examples-hold : All table
-unfolding lesser greater sumTo totalTo count every keep allTo anyTo rising before treeRun eachOnce isTree leastFrom greatestFrom rootBox boxes aboveAt inside isSettled isOpen openSlots visits digitsWithin digits S isSquare firstOf buildAnswer checkAnswer listCode listAnswer listAfter placeCode placeAnswer
+unfolding lesser greater sumTo totalTo count every keep allTo anyTo rising before treeRun eachOnce isTree leastFrom greatestFrom rootBox boxes aboveAt inside isSettled isOpen openSlots visits digitsWithin digits S isSquare firstOf buildAnswer checkAnswer listCode listAnswer listAfter insideSlots upToFirst screenVisits screenCode screenAnswer placeCode placeAnswer
 examples-hold =
     example-1-build by built refl refl refl refl
     also example-1-check by refl
@@ -831,4 +937,21 @@ examples-hold =
     also list-refuses-n by (refl, refl)
     also list-refuses-points by (refl, refl)
     also list-refuses-short-order by (refl, refl)
+    also screen-two-faces by refl
+    also screen-node-to-the-right by refl
+    also screen-all by refl
+    also screen-none by refl
+    also screen-no-faces by refl
+    also screen-last-slot by refl
+    also screen-between by refl
+    also screen-empty by refl
+    also screen-refuses-dimension by refl
+    also screen-refuses-n by refl
+    also screen-refuses-points by refl
+    also screen-refuses-short-order by refl
+    also screen-refuses-coordinate by refl
+    also screen-refuses-h by refl
+    also screen-refuses-normals by refl
+    also screen-refuses-component by refl
+    also screen-refuses-order by refl
     also nothing-left

@@ -8,10 +8,12 @@ pub mod Box
 pub mod Region
 pub mod Visits
 pub mod Lists
+pub mod Screen
 pub mod Bound
 pub mod Refusals
 pub mod BuildCall
 pub mod CheckCall
 pub mod ListCall
+pub mod ScreenCall
 pub mod PlaceCall
 pub mod Examples

@@ -16,6 +16,15 @@ pub struct Listing {
     pub visits: u32,
 }
 
+// What the screen call answers: found is 1 or 0, and where it is 0 so is the number. A refusal has its number and zeros.
+#[repr(C)]
+pub struct Screening {
+    pub code: u32,
+    pub found: u32,
+    pub number: u32,
+    pub visits: u32,
+}
+
 // What the test of one point answers: inside is 1 or 0. A refusal has its number and 0.
 #[repr(C)]
 pub struct Placing {

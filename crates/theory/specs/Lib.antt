@@ -8,6 +8,7 @@ pub mod BeforeIsAnOrder
 pub mod TreeFuel
 pub mod Keeping
 pub mod KeepingByPlace
+pub mod FirstInside
 pub mod SameByNumber
 pub mod RisingNumbers
 pub mod EachNumberOnce
@@ -19,6 +20,7 @@ pub mod RefusalsPassed
 pub mod BuildCall
 pub mod CheckCall
 pub mod ListCall
+pub mod ScreenCall
 pub mod PlaceCall
 pub mod AboveIsUpward
 pub mod Boxes

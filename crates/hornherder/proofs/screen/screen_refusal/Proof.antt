@@ -1,0 +1,49 @@
+-- Each group gives the number where it refuses; where it was passed the next one does.
+use mathlib.Core.Path.{refl}
+use borrow.Author.Needs.{needs}
+use Rattle.terms.specs.Lent.{stock, orderOf}
+use Rattle.theory.specs.FirstRefusal.{noZero}
+use Rattle.theory.specs.BuildCall.{BuildPassed}
+use Rattle.hornherder.specs.First.{first-stops, first-goes-on}
+use Rattle.hornherder.specs.BuildOutcome.{build-tested}
+use Rattle.hornherder.proofs.screen.screen_refusal.Statement.{statement}
+use Rattle.hornherder.proofs.screen.screen_refusal.Tie as tie
+
+-- What 1 to 5 have tested.
+tested : (c : tie.Else1) → let a = c .before .before .before .args in BuildPassed (stock (a .k) (a .n) (a .points .now)) (orderOf (a .order .now))
+tested c = build-tested _ _ (c .before .build-refusal .ensures) (c .if1 .left)
+
+build-refusal-requires : tie.Need-build-refusal-requires
+build-refusal-requires c κs = search needs
+
+returns : tie.Need-returns
+returns c = first-stops _ (c .before .build-refusal .ensures) (c .if1 .taken)
+
+face-refusal-requires : tie.Need-face-refusal-requires
+face-refusal-requires c κs = tested c .tested .few
+
+returns-2 : tie.Need-returns-2
+unfolding noZero
+returns-2 c =
+    first-goes-on
+    refl
+    (c .before .before .before .build-refusal .ensures)
+    (c .before .before .if1 .left)
+    (first-stops _ (c .before .face-refusal .ensures) (c .if2 .taken))
+
+tree-refusal-requires : tie.Need-tree-refusal-requires
+tree-refusal-requires c κs = let t = tested (c .before .before) in (t .tested, t .room)
+
+returns-3 : tie.Need-returns-3
+unfolding noZero
+returns-3 c =
+    first-goes-on
+    refl
+    (c .before .before .before .before .build-refusal .ensures)
+    (c .before .before .before .if1 .left)
+    (first-goes-on refl (c .before .before .face-refusal .ensures) (c .before .if2 .left) (c .tree-refusal .ensures))
+
+pub screen-refusal-spec : {M : Type 1} → statement M
+screen-refusal-spec =
+    tie.close
+    (tie.spec build-refusal-requires returns face-refusal-requires returns-2 tree-refusal-requires returns-3)

@@ -1,0 +1,3 @@
+pub mod Screened
+pub mod Parts
+pub mod Shelf
