@@ -21,7 +21,8 @@ fn visits_alone(lent: &Lent) -> Vec<u64> {
             .map(|slot| branch_box(&shelf, &root, slot))
             .collect(),
     };
-    faces(lent.k, lent.h, &lent.normals, &lent.offsets)
+    let marks = lent.closed();
+    faces(lent.k, lent.h, &lent.normals, &lent.offsets, &marks)
         .iter()
         .map(|face| {
             let opened = boxes.iter().filter(|bx| open(slice::from_ref(face), bx));

@@ -50,6 +50,7 @@ pub fn list(lent: &Lent) -> (raw::Listing, Vec<u32>) {
         &lent.order,
         &lent.normals,
         &lent.offsets,
+        &lent.closed(),
         &mut theirs.list,
     );
     let (answer, ours) = listed(lent);
@@ -110,6 +111,7 @@ pub fn screen(lent: &Lent) -> raw::Screening {
         &lent.order,
         &lent.normals,
         &lent.offsets,
+        &lent.closed(),
     );
     let numbers = (answer.code, answer.found, answer.number, answer.visits);
     let theirs_numbers = (
@@ -174,7 +176,14 @@ pub fn place(lent: &Lent) -> raw::Placing {
     let (normals, offsets) = (&ours.normals, &ours.offsets);
     let answer = raw::place(lent.k, lent.h, &ours.point, normals, offsets);
     let (normals, offsets) = (&lent.normals, &lent.offsets);
-    let expected = second::place(lent.k, lent.h, &lent.point, normals, offsets);
+    let expected = second::place(
+        lent.k,
+        lent.h,
+        &lent.point,
+        normals,
+        offsets,
+        &lent.closed(),
+    );
     let numbers = (answer.code, answer.inside);
     assert_eq!(
         numbers,

@@ -1,7 +1,7 @@
 //! Regions of every kind that makes a difference.
 
 use crate::chance::Chance;
-use second::region::{sum_of_products, Face};
+use second::region::{sum_of_products, Face, CLOSED};
 
 /// The kinds of faces.
 #[derive(Clone, Copy, Debug, PartialEq, Eq)]
@@ -61,7 +61,11 @@ fn around(chance: &mut Chance, k: usize, points: &[i32], h: usize) -> (Vec<i32>,
     let faces = (0..h).map(|_| {
         let normal = components(chance, k, 20);
         let offset = through(&normal, &middle) - chance.between(0, room);
-        Face { normal, offset }
+        Face {
+            normal,
+            offset,
+            mark: CLOSED,
+        }
     });
     slices(faces.collect())
 }
@@ -91,14 +95,22 @@ fn fresh(chance: &mut Chance, kind: Kind, k: usize, points: &[i32]) -> Face {
         Kind::Extreme => chance.one_of(&[near, near, -8_589_934_592, 8_589_934_592]),
         _ => near,
     };
-    Face { normal, offset }
+    Face {
+        normal,
+        offset,
+        mark: CLOSED,
+    }
 }
 
 /// A face turned round: what was above is below, but for a strip that both or neither has.
 fn against(chance: &mut Chance, face: &Face) -> Face {
     let offset = (-face.offset + chance.between(-2, 2)).clamp(-8_589_934_592, 8_589_934_592);
     let normal = face.normal.iter().map(|component| -component).collect();
-    Face { normal, offset }
+    Face {
+        normal,
+        offset,
+        mark: CLOSED,
+    }
 }
 
 /// Components from `-most` to `most`.

@@ -18,6 +18,11 @@ pub struct Lent {
 }
 
 impl Lent {
+    /// The second program's mark of each face: all are closed. More than 64 are refused before a mark is looked at.
+    pub fn closed(&self) -> Vec<u8> {
+        vec![0; self.h.min(64)]
+    }
+
     /// These points and no faces, with buffers that hold anything and have some places behind place n.
     pub fn new(chance: &mut Chance, k: usize, points: Vec<i32>) -> Lent {
         let n = points.len() / k;

@@ -58,9 +58,11 @@ pub fn list(
     order: &[u32],
     normals: &[i32],
     offsets: &[i64],
+    marks: &[u8],
     list: &mut [u32],
 ) -> Listing {
-    let code = refusals::of_list(k, n, h, points, order, normals, offsets, list.len());
+    let length = list.len();
+    let code = refusals::of_list(k, n, h, points, order, normals, offsets, marks, length);
     if code != 0 {
         return Listing {
             code,
@@ -69,7 +71,7 @@ pub fn list(
     }
     let slots = &order[..n];
     let shelf = Shelf { k, points, slots };
-    let faces = faces(k, h, normals, offsets);
+    let faces = faces(k, h, normals, offsets, marks);
     let (within, without) = inside_and_outside(&shelf, &faces);
     list[..n].copy_from_slice(&places(&within, &without));
     Listing {
@@ -81,6 +83,7 @@ pub fn list(
 }
 
 /// Gives the inside number in the lowest slot, or says that there is none.
+#[allow(clippy::too_many_arguments)]
 pub fn screen(
     k: usize,
     n: usize,
@@ -89,8 +92,9 @@ pub fn screen(
     order: &[u32],
     normals: &[i32],
     offsets: &[i64],
+    marks: &[u8],
 ) -> Screening {
-    let code = refusals::of_screen(k, n, h, points, order, normals, offsets);
+    let code = refusals::of_screen(k, n, h, points, order, normals, offsets, marks);
     if code != 0 {
         return Screening {
             code,
@@ -99,7 +103,7 @@ pub fn screen(
     }
     let slots = &order[..n];
     let shelf = Shelf { k, points, slots };
-    let faces = faces(k, h, normals, offsets);
+    let faces = faces(k, h, normals, offsets, marks);
     let number = found_number(&shelf, &faces);
     Screening {
         code: 0,
@@ -110,12 +114,19 @@ pub fn screen(
 }
 
 /// Tests one point against a region.
-pub fn place(k: usize, h: usize, point: &[i32], normals: &[i32], offsets: &[i64]) -> Placing {
-    let code = refusals::of_place(k, h, point, normals, offsets);
+pub fn place(
+    k: usize,
+    h: usize,
+    point: &[i32],
+    normals: &[i32],
+    offsets: &[i64],
+    marks: &[u8],
+) -> Placing {
+    let code = refusals::of_place(k, h, point, normals, offsets, marks);
     if code != 0 {
         return Placing { code, inside: 0 };
     }
-    let within = inside(&faces(k, h, normals, offsets), point);
+    let within = inside(&faces(k, h, normals, offsets, marks), point);
     Placing {
         code: 0,
         inside: u32::from(within),
@@ -124,6 +135,7 @@ pub fn place(k: usize, h: usize, point: &[i32], normals: &[i32], offsets: &[i64]
 
 /// For each slot, in slot order, whether its branch is open for the region. An
 /// error holds the number that list would refuse with.
+#[allow(clippy::too_many_arguments)]
 pub fn open_slots(
     k: usize,
     n: usize,
@@ -132,12 +144,13 @@ pub fn open_slots(
     order: &[u32],
     normals: &[i32],
     offsets: &[i64],
+    marks: &[u8],
 ) -> Result<Vec<bool>, u32> {
-    match refusals::of_list(k, n, h, points, order, normals, offsets, n) {
+    match refusals::of_list(k, n, h, points, order, normals, offsets, marks, n) {
         0 => {
             let slots = &order[..n];
             let shelf = Shelf { k, points, slots };
-            let faces = faces(k, h, normals, offsets);
+            let faces = faces(k, h, normals, offsets, marks);
             Ok(visits::open_slots(&shelf, &faces))
         }
         code => Err(code),
@@ -146,6 +159,7 @@ pub fn open_slots(
 
 /// The visits of the region: how many slots are open. An error holds the number
 /// that list would refuse with.
+#[allow(clippy::too_many_arguments)]
 pub fn visits_of_region(
     k: usize,
     n: usize,
@@ -154,13 +168,14 @@ pub fn visits_of_region(
     order: &[u32],
     normals: &[i32],
     offsets: &[i64],
+    marks: &[u8],
 ) -> Result<u32, u32> {
-    let open = open_slots(k, n, h, points, order, normals, offsets)?;
+    let open = open_slots(k, n, h, points, order, normals, offsets, marks)?;
     Ok(open.into_iter().filter(|&is_open| is_open).count() as u32)
 }
 
-/// The visits of one face, its normal and offset m, taken as a region alone. An
-/// error holds the number that list would refuse with.
+/// The visits of one face, its normal, offset m and mark, taken as a region
+/// alone. An error holds the number that list would refuse with.
 pub fn visits_of_face(
     k: usize,
     n: usize,
@@ -168,6 +183,7 @@ pub fn visits_of_face(
     order: &[u32],
     normal: &[i32],
     m: i64,
+    mark: u8,
 ) -> Result<u32, u32> {
-    visits_of_region(k, n, 1, points, order, normal, &[m])
+    visits_of_region(k, n, 1, points, order, normal, &[m], &[mark])
 }

@@ -1,13 +1,14 @@
 //! The table of numbers returned, test by test.
 
 use crate::order::is_tree;
+use crate::region::{CLOSED, OPEN};
 
 /// One test of the table: its number, and whether it holds.
 type Test<'a> = (u32, &'a dyn Fn() -> bool);
 
 /// The number of the first test that holds, 0 when none does. The tests stand
-/// in rising order, and none after the first that holds is made.
-fn lowest(tests: &[Test]) -> u32 {
+/// in the call's order, and none after the first that holds is made.
+fn first_held(tests: &[Test]) -> u32 {
     let held = tests.iter().find(|(_, holds)| holds());
     held.map_or(0, |&(number, _)| number)
 }
@@ -55,9 +56,15 @@ pub fn face_wrong(normals: &[i32], offsets: &[i64]) -> bool {
     normals.iter().any(component) || offsets.iter().any(offset)
 }
 
+/// Number 11: the marks are not h long, or one is neither closed nor open.
+pub fn marks_wrong(h: usize, marks: &[u8]) -> bool {
+    let another = |&mark: &u8| mark != CLOSED && mark != OPEN;
+    marks.len() != h || marks.iter().any(another)
+}
+
 /// What build returns: tests 1 to 5.
 pub fn of_build(k: usize, n: usize, points: &[i32], order: &[u32]) -> u32 {
-    lowest(&[
+    first_held(&[
         (1, &|| dimension_wrong(k)),
         (2, &|| too_many_points(n)),
         (3, &|| not_times_long(points.len(), k, n)),
@@ -68,7 +75,7 @@ pub fn of_build(k: usize, n: usize, points: &[i32], order: &[u32]) -> u32 {
 
 /// What check returns: tests 1 to 5 and 9.
 pub fn of_check(k: usize, n: usize, points: &[i32], order: &[u32]) -> u32 {
-    lowest(&[
+    first_held(&[
         (1, &|| dimension_wrong(k)),
         (2, &|| too_many_points(n)),
         (3, &|| not_times_long(points.len(), k, n)),
@@ -78,7 +85,8 @@ pub fn of_check(k: usize, n: usize, points: &[i32], order: &[u32]) -> u32 {
     ])
 }
 
-/// What list returns: tests 1 to 9. Of the list buffer only its length counts.
+/// What list returns: tests 1 to 8, then 11, then 9. Of the list buffer only its
+/// length counts.
 #[allow(clippy::too_many_arguments)]
 pub fn of_list(
     k: usize,
@@ -88,9 +96,10 @@ pub fn of_list(
     order: &[u32],
     normals: &[i32],
     offsets: &[i64],
+    marks: &[u8],
     list_length: usize,
 ) -> u32 {
-    lowest(&[
+    first_held(&[
         (1, &|| dimension_wrong(k)),
         (2, &|| too_many_points(n)),
         (3, &|| not_times_long(points.len(), k, n)),
@@ -99,11 +108,13 @@ pub fn of_list(
         (6, &|| too_many_faces(h)),
         (7, &|| faces_not_long(k, h, normals, offsets)),
         (8, &|| face_wrong(normals, offsets)),
+        (11, &|| marks_wrong(h, marks)),
         (9, &|| !is_tree(k, n, points, order)),
     ])
 }
 
-/// What screen returns: tests 1 to 9 as for list, without the list buffer.
+/// What screen returns: the tests of list, without the list buffer.
+#[allow(clippy::too_many_arguments)]
 pub fn of_screen(
     k: usize,
     n: usize,
@@ -112,8 +123,9 @@ pub fn of_screen(
     order: &[u32],
     normals: &[i32],
     offsets: &[i64],
+    marks: &[u8],
 ) -> u32 {
-    lowest(&[
+    first_held(&[
         (1, &|| dimension_wrong(k)),
         (2, &|| too_many_points(n)),
         (3, &|| not_times_long(points.len(), k, n)),
@@ -122,18 +134,27 @@ pub fn of_screen(
         (6, &|| too_many_faces(h)),
         (7, &|| faces_not_long(k, h, normals, offsets)),
         (8, &|| face_wrong(normals, offsets)),
+        (11, &|| marks_wrong(h, marks)),
         (9, &|| !is_tree(k, n, points, order)),
     ])
 }
 
-/// What the one-point test returns: tests 1, 3 and 5 to 8.
-pub fn of_place(k: usize, h: usize, point: &[i32], normals: &[i32], offsets: &[i64]) -> u32 {
-    lowest(&[
+/// What the one-point test returns: tests 1, 3, 5 to 8 and 11.
+pub fn of_place(
+    k: usize,
+    h: usize,
+    point: &[i32],
+    normals: &[i32],
+    offsets: &[i64],
+    marks: &[u8],
+) -> u32 {
+    first_held(&[
         (1, &|| dimension_wrong(k)),
         (3, &|| point.len() != k),
         (5, &|| coordinate_wrong(point)),
         (6, &|| too_many_faces(h)),
         (7, &|| faces_not_long(k, h, normals, offsets)),
         (8, &|| face_wrong(normals, offsets)),
+        (11, &|| marks_wrong(h, marks)),
     ])
 }

@@ -1,10 +1,17 @@
 //! Faces, regions and the boxes of branches.
 
-/// A face: its normal and its offset m.
+/// The mark of a closed face: it owns the points on it.
+pub const CLOSED: u8 = 0;
+
+/// The mark of an open face: the points on it are below.
+pub const OPEN: u8 = 1;
+
+/// A face: its normal, its offset m and its mark.
 #[derive(Clone, Debug, PartialEq, Eq)]
 pub struct Face {
     pub normal: Vec<i32>,
     pub offset: i64,
+    pub mark: u8,
 }
 
 /// A box: the least and the greatest coordinate in each dimension.
@@ -14,12 +21,13 @@ pub struct BranchBox {
     pub greatest: Vec<i32>,
 }
 
-/// The `h` faces of a region, taken out of the two slices.
-pub fn faces(k: usize, h: usize, normals: &[i32], offsets: &[i64]) -> Vec<Face> {
+/// The `h` faces of a region, taken out of the three slices.
+pub fn faces(k: usize, h: usize, normals: &[i32], offsets: &[i64], marks: &[u8]) -> Vec<Face> {
     (0..h)
         .map(|face| Face {
             normal: normals[face * k..(face + 1) * k].to_vec(),
             offset: offsets[face],
+            mark: marks[face],
         })
         .collect()
 }
@@ -30,9 +38,15 @@ pub fn sum_of_products(normal: &[i32], x: &[i32]) -> i128 {
     products.map(|(&a, &b)| i128::from(a) * i128::from(b)).sum()
 }
 
-/// Whether the point is above the face: the sum is at least the offset.
+/// Whether the point is above the face: the sum is at least the offset, and for
+/// an open face "strictly greater", "for points and for box corners alike".
 pub fn above(face: &Face, x: &[i32]) -> bool {
-    sum_of_products(&face.normal, x) >= i128::from(face.offset)
+    let sum = sum_of_products(&face.normal, x);
+    let m = i128::from(face.offset);
+    match face.mark == OPEN {
+        true => sum > m,
+        false => sum >= m,
+    }
 }
 
 /// Whether the point is below the face: not above it.

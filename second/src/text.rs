@@ -1,6 +1,7 @@
 //! The program's text: parse, run, print.
 
 use crate::calls::{build, list, Listing};
+use crate::region::CLOSED;
 
 /// The number of a text that breaks a rule of the text.
 pub const NOT_THE_TEXT: u32 = 10;
@@ -32,7 +33,7 @@ pub fn shelf_text(input: &[u8]) -> Vec<u8> {
 }
 
 /// Builds and lists: the order, the numbers of the answer and the list, or the
-/// number of the refusal.
+/// number of the refusal. The program passes all faces as closed.
 fn run(text: &Text) -> Result<(Vec<u32>, Listing, Vec<u32>), u32> {
     let (k, n, h) = (text.k, text.n, text.h);
     let mut order = vec![0; n];
@@ -41,8 +42,19 @@ fn run(text: &Text) -> Result<(Vec<u32>, Listing, Vec<u32>), u32> {
     if code != 0 {
         return Err(code);
     }
-    let (normals, offsets) = (&text.normals, &text.offsets);
-    let listing = list(k, n, h, &text.points, &order, normals, offsets, &mut buffer);
+    let marks = vec![CLOSED; h];
+    let (points, normals, offsets) = (&text.points, &text.normals, &text.offsets);
+    let listing = list(
+        k,
+        n,
+        h,
+        points,
+        &order,
+        normals,
+        offsets,
+        &marks,
+        &mut buffer,
+    );
     match listing.code {
         0 => Ok((order, listing, buffer)),
         code => Err(code),

@@ -89,9 +89,11 @@ struct Thrown {
     order: Vec<u32>,
     normals: Vec<i32>,
     offsets: Vec<i64>,
+    marks: Vec<u8>,
 }
 
-/// Throws a shelf with its built order and a region; square faces on demand.
+/// Throws a shelf with its built order and a region of closed and open faces;
+/// square faces on demand.
 fn thrown(dice: &mut Dice, square: bool) -> Thrown {
     let k = dice.throw(1, 4) as usize;
     let n = dice.throw(0, 70) as usize;
@@ -107,12 +109,14 @@ fn thrown(dice: &mut Dice, square: bool) -> Thrown {
         }
     }
     let offsets = (0..h).map(|_| dice.throw(-60, 30)).collect();
+    let marks = (0..h).map(|_| dice.throw(0, 1) as u8).collect();
     Thrown {
         k,
         points,
         order,
         normals,
         offsets,
+        marks,
     }
 }
 
@@ -120,8 +124,17 @@ fn thrown(dice: &mut Dice, square: bool) -> Thrown {
 fn listed(t: &Thrown) -> (Listing, Vec<u32>) {
     let (n, h) = (t.order.len(), t.offsets.len());
     let mut places = vec![0; n];
-    let (points, order, normals) = (&t.points, &t.order, &t.normals);
-    let answer = list(t.k, n, h, points, order, normals, &t.offsets, &mut places);
+    let answer = list(
+        t.k,
+        n,
+        h,
+        &t.points,
+        &t.order,
+        &t.normals,
+        &t.offsets,
+        &t.marks,
+        &mut places,
+    );
     assert_eq!(answer.code, 0);
     (answer, places)
 }
@@ -137,7 +150,8 @@ fn lists_agree_with_the_one_point_test() {
         let side = |number: &u32| {
             let first = *number as usize * t.k;
             let point = &t.points[first..first + t.k];
-            place(t.k, t.offsets.len(), point, &t.normals, &t.offsets).inside
+            let h = t.offsets.len();
+            place(t.k, h, point, &t.normals, &t.offsets, &t.marks).inside
         };
         let (front, back) = places.split_at(answer.inside as usize);
         let within: Vec<u32> = t.order.iter().copied().filter(|p| side(p) == 1).collect();
@@ -155,14 +169,17 @@ fn visits_at_most_the_sum_of_faces() {
     for round in 0..400 {
         let t = thrown(&mut dice, round % 2 == 0);
         let n = t.order.len();
-        let alone = |(normal, &m)| visits_of_face(t.k, n, &t.points, &t.order, normal, m);
-        let faces = t.normals.chunks(t.k).zip(&t.offsets);
-        let sum: u32 = faces.map(|face| alone(face).unwrap()).sum();
+        let alone = |((normal, &m), &mark)| {
+            visits_of_face(t.k, n, &t.points, &t.order, normal, m, mark).unwrap()
+        };
+        let faces = t.normals.chunks(t.k).zip(&t.offsets).zip(&t.marks);
+        let sum: u32 = faces.map(alone).sum();
         assert!(listed(&t).0.visits <= sum);
     }
 }
 
-/// Where all faces are square, visits are at most h times S(n, k).
+/// Where all faces are square, whatever their marks, visits are at most h times
+/// S(n, k).
 #[test]
 fn visits_at_most_the_bound() {
     let mut dice = Dice(47);

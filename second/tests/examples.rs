@@ -1,4 +1,4 @@
-//! The twelve given examples and the rows of S.
+//! The twelve given examples, with every face closed, and the rows of S.
 
 use second::{build, check, list, open_slots, place, s, screen, shelf_text};
 use second::{visits_of_face, Listing};
@@ -7,6 +7,7 @@ const A: [i32; 12] = [1, 5, 4, 2, 4, 8, 7, 1, 6, 6, 2, 2];
 const A_ORDER: [u32; 6] = [1, 5, 0, 2, 3, 4];
 const TWO_NORMALS: [i32; 4] = [1, 1, -1, 0];
 const TWO_OFFSETS: [i64; 2] = [7, -6];
+const TWO_CLOSED: [u8; 2] = [0, 0];
 
 /// Builds the order of these points, which must be done.
 fn built(k: usize, points: &[i32]) -> Vec<u32> {
@@ -20,8 +21,18 @@ fn built(k: usize, points: &[i32]) -> Vec<u32> {
 fn listed(k: usize, points: &[i32], normals: &[i32], offsets: &[i64]) -> (Listing, Vec<u32>) {
     let order = built(k, points);
     let (n, h) = (order.len(), offsets.len());
-    let mut places = vec![88; n];
-    let answer = list(k, n, h, points, &order, normals, offsets, &mut places);
+    let (marks, mut places) = (vec![0; h], vec![88; n]);
+    let answer = list(
+        k,
+        n,
+        h,
+        points,
+        &order,
+        normals,
+        offsets,
+        &marks,
+        &mut places,
+    );
     (answer, places)
 }
 
@@ -47,7 +58,16 @@ fn example_2_two_faces() {
     let (answer, places) = listed(2, &A, &TWO_NORMALS, &TWO_OFFSETS);
     assert_eq!(answer, done(2, 4, 5));
     assert_eq!(places, [2, 4, 3, 0, 5, 1]);
-    let open = open_slots(2, 6, 2, &A, &A_ORDER, &TWO_NORMALS, &TWO_OFFSETS);
+    let open = open_slots(
+        2,
+        6,
+        2,
+        &A,
+        &A_ORDER,
+        &TWO_NORMALS,
+        &TWO_OFFSETS,
+        &TWO_CLOSED,
+    );
     assert_eq!(open, Ok(vec![false, true, true, true, true, true]));
     let shelf = second::shelf::Shelf {
         k: 2,
@@ -73,7 +93,7 @@ fn example_3_one_square_face() {
     let (answer, places) = listed(2, &A, &[1, 0], &[5]);
     assert_eq!(answer, done(2, 4, 3));
     assert_eq!(places, [3, 4, 2, 0, 5, 1]);
-    assert_eq!(visits_of_face(2, 6, &A, &A_ORDER, &[1, 0], 5), Ok(3));
+    assert_eq!(visits_of_face(2, 6, &A, &A_ORDER, &[1, 0], 5, 0), Ok(3));
 }
 
 /// Example 4.
@@ -89,8 +109,8 @@ fn example_5_points_on_the_face_are_inside() {
     let (answer, places) = listed(2, &A, &[1, 1], &[6]);
     let inside = &places[..answer.inside as usize];
     assert!(inside.contains(&0) && inside.contains(&1));
-    assert_eq!(place(2, 1, &A[0..2], &[1, 1], &[6]).inside, 1);
-    assert_eq!(place(2, 1, &A[2..4], &[1, 1], &[6]).inside, 1);
+    assert_eq!(place(2, 1, &A[0..2], &[1, 1], &[6], &[0]).inside, 1);
+    assert_eq!(place(2, 1, &A[2..4], &[1, 1], &[6], &[0]).inside, 1);
 }
 
 /// Example 6.
@@ -121,7 +141,7 @@ fn example_8_ties() {
 fn example_9_one_point() {
     let (answer, places) = listed(2, &[4, 2], &TWO_NORMALS, &TWO_OFFSETS);
     assert_eq!((answer, places), (done(0, 1, 0), vec![0]));
-    let placing = place(2, 2, &[4, 2], &TWO_NORMALS, &TWO_OFFSETS);
+    let placing = place(2, 2, &[4, 2], &TWO_NORMALS, &TWO_OFFSETS, &TWO_CLOSED);
     assert_eq!((placing.code, placing.inside), (0, 0));
 }
 
@@ -131,10 +151,11 @@ fn example_10_dimension_and_count() {
     for (k, code) in [(0, 1), (1, 0), (4, 0), (5, 1)] {
         assert_eq!(build(k, 2, &vec![0; 2 * k], &mut [9, 9]), code);
         assert_eq!(check(k, 2, &vec![0; 2 * k], &[0, 1]), code);
-        let answer = list(k, 2, 0, &vec![0; 2 * k], &[0, 1], &[], &[], &mut [9, 9]);
+        let points = vec![0; 2 * k];
+        let answer = list(k, 2, 0, &points, &[0, 1], &[], &[], &[], &mut [9, 9]);
         assert_eq!(answer.code, code);
-        assert_eq!(place(k, 0, &vec![0; k], &[], &[]).code, code);
-        let answer = screen(k, 2, 0, &vec![0; 2 * k], &[0, 1], &[], &[]);
+        assert_eq!(place(k, 0, &points[..k], &[], &[], &[]).code, code);
+        let answer = screen(k, 2, 0, &points, &[0, 1], &[], &[], &[]);
         assert_eq!(answer.code, code);
     }
     let mut order = vec![0; 65_536];
@@ -146,8 +167,8 @@ fn example_10_dimension_and_count() {
 fn example_11_coordinate_and_component() {
     assert_eq!(build(1, 1, &[32_767], &mut [0]), 0);
     assert_eq!(build(1, 1, &[32_768], &mut [0]), 5);
-    assert_eq!(place(1, 1, &[0], &[-32_767], &[0]).code, 0);
-    assert_eq!(place(1, 1, &[0], &[-32_768], &[0]).code, 8);
+    assert_eq!(place(1, 1, &[0], &[-32_767], &[0], &[0]).code, 0);
+    assert_eq!(place(1, 1, &[0], &[-32_768], &[0], &[0]).code, 8);
 }
 
 /// Example 12.

@@ -15,8 +15,8 @@ fn coordinates(count: usize) -> Vec<i32> {
     (0..count).map(next).collect()
 }
 
-/// Builds, checks, lists and screens a full shelf with 32 square faces, and shows
-/// the time.
+/// Builds, checks, lists and screens a full shelf with 32 square faces, closed
+/// and open by turns, and shows the time.
 #[test]
 fn full_shelves() {
     for k in 1..=4 {
@@ -31,8 +31,19 @@ fn full_shelves() {
             .map(|i| if i % k == (i / k) % k { 32_767 } else { 0 })
             .collect();
         let offsets: Vec<i64> = (0..32).map(|face| -32_767 * (20_000 + face)).collect();
+        let marks: Vec<u8> = (0..32).map(|face| face % 2).collect();
         let start = Instant::now();
-        let answer = list(k, N, 32, &points, &order, &normals, &offsets, &mut places);
+        let answer = list(
+            k,
+            N,
+            32,
+            &points,
+            &order,
+            &normals,
+            &offsets,
+            &marks,
+            &mut places,
+        );
         println!(
             "k {k}: build {built:?}, list {:?}, {answer:?}",
             start.elapsed()
@@ -40,7 +51,7 @@ fn full_shelves() {
         assert_eq!(answer.code, 0);
         assert_eq!(answer.inside + answer.outside, 65_535);
         assert!(u64::from(answer.visits) <= 32 * s(N, k));
-        let first = screen(k, N, 32, &points, &order, &normals, &offsets);
+        let first = screen(k, N, 32, &points, &order, &normals, &offsets, &marks);
         assert_eq!((first.code, first.found, first.number), (0, 1, places[0]));
         assert!(first.visits <= answer.visits);
     }

@@ -1,4 +1,4 @@
-//! Limits on both sides, the rising order of the tests, and what a refusal
+//! Limits on both sides, the order of the tests of each call, and what a refusal
 //! leaves alone.
 
 use second::{build, check, list, open_slots, place, screen, Listing, Placing, Screening};
@@ -15,6 +15,7 @@ struct Lent {
     order: Vec<u32>,
     normals: Vec<i32>,
     offsets: Vec<i64>,
+    marks: Vec<u8>,
     list: Vec<u32>,
 }
 
@@ -28,6 +29,7 @@ fn right() -> Lent {
         order: vec![0, 1, 70],
         normals: vec![1],
         offsets: vec![5],
+        marks: vec![0],
         list: vec![80, 81, 82],
     }
 }
@@ -43,6 +45,7 @@ fn called(lent: &Lent) -> (Listing, Vec<u32>) {
         &lent.order,
         &lent.normals,
         &lent.offsets,
+        &lent.marks,
         &mut buffer,
     );
     (answer, buffer)
@@ -69,6 +72,7 @@ fn screened(lent: &Lent) -> Screening {
         &lent.order,
         &lent.normals,
         &lent.offsets,
+        &lent.marks,
     )
 }
 
@@ -84,10 +88,11 @@ fn screen_refuses(lent: &Lent, code: u32) {
 /// A change that brings one refusal about.
 type Break = (u32, fn(&mut Lent));
 
-/// One break for each number, from 9 down to 1, so that each later one must
-/// hide those before it.
-const BREAKS: [Break; 9] = [
+/// One break for each number, in the call's order from the last test to the
+/// first: 9, then 11, then 8 down to 1. Each later one must hide those before it.
+const BREAKS: [Break; 10] = [
     (9, |lent| lent.order[0] = 1),
+    (11, |lent| lent.marks[0] = 2),
     (8, |lent| lent.normals[0] = 32_768),
     (7, |lent| lent.offsets.push(0)),
     (6, |lent| lent.h = 33),
@@ -109,22 +114,23 @@ fn list_refuses_each_alone() {
     }
 }
 
-/// Any two breaks together: the lower number.
+/// Any two breaks together: the number that comes first in the call's order.
 #[test]
-fn list_refuses_the_lower_of_two() {
-    for (high, first) in BREAKS {
-        for (low, second) in BREAKS.into_iter().filter(|&(low, _)| low < high) {
+fn list_refuses_the_first_of_two() {
+    for (place, (_, late)) in BREAKS.into_iter().enumerate() {
+        for (code, early) in BREAKS.into_iter().skip(place + 1) {
             let mut lent = right();
-            first(&mut lent);
-            second(&mut lent);
-            refuses(&lent, low);
+            late(&mut lent);
+            early(&mut lent);
+            refuses(&lent, code);
         }
     }
 }
 
-/// All breaks heaped up from 9 to 1: always the lowest so far.
+/// All breaks heaped up from the last test to the first: always the first in the
+/// call's order so far.
 #[test]
-fn list_refuses_in_rising_order() {
+fn list_refuses_in_its_order() {
     let mut lent = right();
     for (code, change) in BREAKS {
         change(&mut lent);
@@ -133,7 +139,7 @@ fn list_refuses_in_rising_order() {
 }
 
 /// The breaks of screen: it has no list buffer, so 4 is for a short order.
-fn breaks_of_screen() -> [Break; 9] {
+fn breaks_of_screen() -> [Break; 10] {
     BREAKS.map(|(code, change)| match code {
         4 => (4, (|lent| lent.order.truncate(1)) as fn(&mut Lent)),
         _ => (code, change),
@@ -151,23 +157,25 @@ fn screen_refuses_each_alone() {
     }
 }
 
-/// Screen refuses any two breaks together with the lower number.
+/// Screen refuses any two breaks together with the number that comes first in
+/// the call's order.
 #[test]
-fn screen_refuses_the_lower_of_two() {
+fn screen_refuses_the_first_of_two() {
     let breaks = breaks_of_screen();
-    for (high, first) in breaks {
-        for (low, second) in breaks.into_iter().filter(|&(low, _)| low < high) {
+    for (place, (_, late)) in breaks.into_iter().enumerate() {
+        for (code, early) in breaks.into_iter().skip(place + 1) {
             let mut lent = right();
-            first(&mut lent);
-            second(&mut lent);
-            screen_refuses(&lent, low);
+            late(&mut lent);
+            early(&mut lent);
+            screen_refuses(&lent, code);
         }
     }
 }
 
-/// Screen with all breaks heaped up from 9 to 1: always the lowest so far.
+/// Screen with all breaks heaped up from the last test to the first: always the
+/// first in the call's order so far.
 #[test]
-fn screen_refuses_in_rising_order() {
+fn screen_refuses_in_its_order() {
     let mut lent = right();
     for (code, change) in breaks_of_screen() {
         change(&mut lent);
@@ -190,7 +198,7 @@ fn screen_refuses_as_list_does() {
 #[test]
 fn screen_refuses_strange_numbers() {
     for order in [[0, 0], [1, 1], [1, 0], [0, 2], [0, u32::MAX]] {
-        let answer = screen(1, 2, 1, &[0, 10], &order, &[1], &[5]);
+        let answer = screen(1, 2, 1, &[0, 10], &order, &[1], &[5], &[0]);
         assert_eq!((answer.code, answer.found, answer.number), (9, 0, 0));
     }
 }
@@ -239,19 +247,20 @@ fn check_refuses_strange_numbers() {
     }
 }
 
-/// The one-point test refuses in rising order.
+/// The one-point test refuses in rising order; its 11 comes last.
 #[test]
 fn place_refuses_in_rising_order() {
     let refusal = |code| Placing { code, inside: 0 };
-    assert_eq!(place(5, 33, &[32_768], &[-32_768], &[]), refusal(1));
-    assert_eq!(place(2, 33, &[32_768], &[-32_768], &[]), refusal(3));
-    assert_eq!(place(1, 33, &[32_768], &[-32_768], &[]), refusal(5));
-    assert_eq!(place(1, 33, &[0], &[-32_768], &[]), refusal(6));
-    assert_eq!(place(1, 1, &[0], &[-32_768], &[]), refusal(7));
-    assert_eq!(place(1, 1, &[0], &[-32_768], &[0]), refusal(8));
+    assert_eq!(place(5, 33, &[32_768], &[-32_768], &[], &[2]), refusal(1));
+    assert_eq!(place(2, 33, &[32_768], &[-32_768], &[], &[2]), refusal(3));
+    assert_eq!(place(1, 33, &[32_768], &[-32_768], &[], &[2]), refusal(5));
+    assert_eq!(place(1, 33, &[0], &[-32_768], &[], &[2]), refusal(6));
+    assert_eq!(place(1, 1, &[0], &[-32_768], &[], &[2]), refusal(7));
+    assert_eq!(place(1, 1, &[0], &[-32_768], &[0], &[2]), refusal(8));
+    assert_eq!(place(1, 1, &[0], &[-32_767], &[0], &[2]), refusal(11));
     let done = Placing { code: 0, inside: 1 };
-    assert_eq!(place(1, 1, &[0], &[-32_767], &[0]), done);
-    assert_eq!(place(1, 0, &[0], &[], &[]), done);
+    assert_eq!(place(1, 1, &[0], &[-32_767], &[0], &[0]), done);
+    assert_eq!(place(1, 0, &[0], &[], &[], &[]), done);
 }
 
 /// Coordinates, components and offsets, on both sides of both limits.
@@ -260,18 +269,18 @@ fn ranges_on_both_sides() {
     for (x, code) in [(-32_769, 5), (-32_768, 0), (32_767, 0), (32_768, 5)] {
         assert_eq!(build(1, 1, &[x], &mut [0]), code);
         assert_eq!(check(1, 1, &[x], &[0]), code);
-        assert_eq!(place(1, 0, &[x], &[], &[]).code, code);
+        assert_eq!(place(1, 0, &[x], &[], &[], &[]).code, code);
     }
     for (a, code) in [(-32_768, 8), (-32_767, 0), (32_767, 0), (32_768, 8)] {
-        assert_eq!(place(1, 1, &[0], &[a], &[0]).code, code);
+        assert_eq!(place(1, 1, &[0], &[a], &[0], &[0]).code, code);
     }
     for (m, code) in [(-M - 1, 8), (-M, 0), (M, 0), (M + 1, 8)] {
-        assert_eq!(place(1, 1, &[0], &[0], &[m]).code, code);
+        assert_eq!(place(1, 1, &[0], &[0], &[m], &[0]).code, code);
     }
     for x in [i32::MIN, i32::MAX] {
         assert_eq!(build(1, 1, &[x], &mut [0]), 5);
-        assert_eq!(place(1, 1, &[0], &[x], &[0]).code, 8);
-        assert_eq!(place(1, 1, &[0], &[0], &[i64::MIN]).code, 8);
+        assert_eq!(place(1, 1, &[0], &[x], &[0], &[0]).code, 8);
+        assert_eq!(place(1, 1, &[0], &[0], &[i64::MIN], &[0]).code, 8);
     }
 }
 
@@ -285,13 +294,15 @@ fn lengths_on_both_sides() {
         assert_eq!(build(2, 3, &[0; 6], &mut vec![0; length]), code);
     }
     for (length, code) in [(3, 7), (4, 0), (5, 7)] {
-        assert_eq!(place(2, 2, &[0; 2], &vec![0; length], &[0; 2]).code, code);
+        let normals = vec![0; length];
+        assert_eq!(place(2, 2, &[0; 2], &normals, &[0; 2], &[0; 2]).code, code);
     }
     for (length, code) in [(1, 7), (2, 0), (3, 7)] {
-        assert_eq!(place(2, 2, &[0; 2], &[0; 4], &vec![0; length]).code, code);
+        let offsets = vec![0; length];
+        assert_eq!(place(2, 2, &[0; 2], &[0; 4], &offsets, &[0; 2]).code, code);
     }
     for (length, code) in [(2, 3), (3, 0), (4, 3)] {
-        assert_eq!(place(3, 0, &vec![0; length], &[], &[]).code, code);
+        assert_eq!(place(3, 0, &vec![0; length], &[], &[], &[]).code, code);
     }
 }
 
@@ -302,7 +313,8 @@ fn counts_on_both_sides() {
         assert_eq!(build(1, n, &vec![0; n], &mut vec![0; n]), code);
     }
     for (h, code) in [(0, 0), (32, 0), (33, 6)] {
-        assert_eq!(place(1, h, &[0], &vec![0; h], &vec![0; h]).code, code);
+        let (normals, offsets, marks) = (vec![0; h], vec![0; h], vec![0; h]);
+        assert_eq!(place(1, h, &[0], &normals, &offsets, &marks).code, code);
     }
 }
 
@@ -328,12 +340,12 @@ fn greatest_numbers_are_refused() {
     assert_eq!(build(most, most, &[], &mut []), 1);
     assert_eq!(build(4, most, &[], &mut []), 2);
     assert_eq!(check(4, most / 4 + 1, &[], &[]), 2);
-    assert_eq!(place(4, most, &[0; 4], &[], &[]).code, 6);
-    let answer = list(4, 0, most / 4 + 1, &[], &[], &[], &[], &mut []);
+    assert_eq!(place(4, most, &[0; 4], &[], &[], &[]).code, 6);
+    let answer = list(4, 0, most / 4 + 1, &[], &[], &[], &[], &[], &mut []);
     assert_eq!(answer.code, 6);
-    assert_eq!(open_slots(4, 0, most, &[], &[], &[], &[]), Err(6));
-    assert_eq!(screen(4, most, 0, &[], &[], &[], &[]).code, 2);
-    assert_eq!(screen(4, 0, most, &[], &[], &[], &[]).code, 6);
+    assert_eq!(open_slots(4, 0, most, &[], &[], &[], &[], &[]), Err(6));
+    assert_eq!(screen(4, most, 0, &[], &[], &[], &[], &[]).code, 2);
+    assert_eq!(screen(4, 0, most, &[], &[], &[], &[], &[]).code, 6);
 }
 
 /// The empty shelf: done, nothing listed, no visits.
@@ -342,7 +354,7 @@ fn empty_shelf() {
     assert_eq!(build(4, 0, &[], &mut [5]), 0);
     assert_eq!(check(4, 0, &[], &[]), 0);
     let mut buffer = [6];
-    let answer = list(1, 0, 1, &[], &[], &[1], &[5], &mut buffer);
+    let answer = list(1, 0, 1, &[], &[], &[1], &[5], &[1], &mut buffer);
     assert_eq!((answer, buffer), (Listing::default(), [6]));
-    assert_eq!(open_slots(1, 0, 1, &[], &[], &[1], &[5]), Ok(vec![]));
+    assert_eq!(open_slots(1, 0, 1, &[], &[], &[1], &[5], &[1]), Ok(vec![]));
 }

@@ -14,19 +14,30 @@ fn built(k: usize, points: &[i32]) -> Vec<u32> {
     order
 }
 
-/// Screens a built shelf.
+/// Screens a built shelf, every face closed.
 fn screened(k: usize, points: &[i32], normals: &[i32], offsets: &[i64]) -> Screening {
     let order = built(k, points);
     let (n, h) = (order.len(), offsets.len());
-    screen(k, n, h, points, &order, normals, offsets)
+    screen(k, n, h, points, &order, normals, offsets, &vec![0; h])
 }
 
-/// Lists a built shelf: the numbers of the answer and the list.
+/// Lists a built shelf, every face closed: the numbers of the answer and the
+/// list.
 fn listed(k: usize, points: &[i32], normals: &[i32], offsets: &[i64]) -> (Listing, Vec<u32>) {
     let order = built(k, points);
     let (n, h) = (order.len(), offsets.len());
-    let mut places = vec![88; n];
-    let answer = list(k, n, h, points, &order, normals, offsets, &mut places);
+    let (marks, mut places) = (vec![0; h], vec![88; n]);
+    let answer = list(
+        k,
+        n,
+        h,
+        points,
+        &order,
+        normals,
+        offsets,
+        &marks,
+        &mut places,
+    );
     assert_eq!(answer.code, 0);
     (answer, places)
 }
@@ -149,7 +160,16 @@ fn found_slot_settled() {
     let points = [1, 1, 2, 2, 4, 8, 7, 1, 6, 6];
     let (normals, offsets) = ([1, 0, 0, -1], [4, -6]);
     assert_eq!(built(2, &points), [0, 1, 2, 3, 4]);
-    let open = open_slots(2, 5, 2, &points, &[0, 1, 2, 3, 4], &normals, &offsets);
+    let open = open_slots(
+        2,
+        5,
+        2,
+        &points,
+        &[0, 1, 2, 3, 4],
+        &normals,
+        &offsets,
+        &[0, 0],
+    );
     assert_eq!(open, Ok(vec![true, true, true, false, true]));
     assert_eq!(screened(2, &points, &normals, &offsets), found(3, 3));
 }
@@ -158,7 +178,7 @@ fn found_slot_settled() {
 #[test]
 fn later_places_are_not_read() {
     for later in [0, 1, 2, u32::MAX] {
-        let answer = screen(1, 2, 1, &[0, 10], &[0, 1, later], &[1], &[5]);
+        let answer = screen(1, 2, 1, &[0, 10], &[0, 1, later], &[1], &[5], &[0]);
         assert_eq!(answer, found(1, 2));
     }
 }
@@ -179,12 +199,13 @@ fn thrown(state: &mut u64, count: usize, most: i64) -> Vec<i64> {
 fn slot_by_slot(k: usize, points: &[i32], normals: &[i32], offsets: &[i64]) -> Screening {
     let order = built(k, points);
     let (n, h) = (order.len(), offsets.len());
-    let open = open_slots(k, n, h, points, &order, normals, offsets).unwrap();
+    let marks = vec![0; h];
+    let open = open_slots(k, n, h, points, &order, normals, offsets, &marks).unwrap();
     let mut visits = 0;
     for (slot, &number) in order.iter().enumerate() {
         visits += u32::from(open[slot]);
         let point = points.chunks(k).nth(number as usize).unwrap();
-        if place(k, h, point, normals, offsets).inside == 1 {
+        if place(k, h, point, normals, offsets, &marks).inside == 1 {
             return found(number, visits);
         }
     }

@@ -42,6 +42,15 @@ fn bare_words() {
     assert_eq!(printed("4 0 1\n1 2 3 4 5\n"), empty);
 }
 
+/// Every face of a text is closed: a point exactly on one is inside.
+#[test]
+fn faces_are_closed() {
+    let on = "order 0\ncount 1 0 0\nlist 0\n";
+    assert_eq!(printed(&single("5", "1", "5")), on);
+    assert_eq!(printed(&single("5", "-1", "-5")), on);
+    assert_eq!(printed(&single("0", "0", "0")), on);
+}
+
 /// Lines: the last newline, too few, too many, empty ones, something after.
 #[test]
 fn lines_broken() {
