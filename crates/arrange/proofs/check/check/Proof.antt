@@ -1,7 +1,7 @@
 -- The root's bounds leave every key in, so the descent's answer from the root is whether the order is the tree.
 use mathlib.Core.Path.{_≡_, sym, _∙_}
+use native.Mathlib.Omega.{arith}
 use lib.ListN.{replicate}
-use borrow.Author.Needs.{needs}
 use Rattle.arrange.specs.Descent.{empty-branch}
 use Rattle.arrange.specs.Checked.{branchAllowed, root-answer}
 use Rattle.arrange.proofs.check.check.Statement.{statement}
@@ -13,7 +13,9 @@ returns c =
     sym (empty-branch _ _ _ _ _ _ _ _ (c .if1 .taken)) ∙ root-answer (b .pre .0) (b .args .order .now) (b .pre .1)
 
 node-requires : tie.Need-node-requires
-node-requires c κs = search needs
+node-requires c κs =
+    let tested = c .before .before .pre .0 in
+    (record { tested = tested; dimension = omega arith; least-size = omega arith; end-size = omega arith }, omega arith)
 
 -- The answer of the descent from the root.
 from-root : (c : tie.After-node) → (let a = c .before .before .before .args in

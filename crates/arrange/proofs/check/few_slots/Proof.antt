@@ -4,7 +4,6 @@ use mathlib.Core.Path.{_≡_, sym, _∙_}
 use mathlib.Core.Bool.{true}
 use native.Mathlib.Omega.{arith}
 use lib.ListN.{length, getD}
-use borrow.Author.Needs.{needs}
 use Rattle.theory.specs.Answers.{refused, accepted}
 use Rattle.arrange.specs.Descent.{empty-branch, lone-slot}
 use Rattle.arrange.specs.Checked.{threeAllowed, three-keyed, on-two}
@@ -15,19 +14,19 @@ returns : tie.Need-returns
 returns c = sym (empty-branch _ _ _ _ _ _ _ _ (c .if1 .taken))
 
 shared-slice-read-q : tie.Need-shared-slice-read-q
-shared-slice-read-q c = search needs
+shared-slice-read-q c = omega arith
 
 allowed-requires : tie.Need-allowed-requires
-allowed-requires c κs = search needs
+allowed-requires c κs = c .before .before .before .before .pre .0 .tested
 
 returns-2 : tie.Need-returns-2
 returns-2 c = c .allowed .ensures ∙ lone-slot _ _ _ _ _ _ _ _ (c .before .if2 .taken)
 
 shared-slice-read-p : tie.Need-shared-slice-read-p
-shared-slice-read-p c = search needs
+shared-slice-read-p c = omega arith
 
 three-allowed-requires : tie.Need-three-allowed-requires
-three-allowed-requires c κs = search needs
+three-allowed-requires c κs = c .before .before .before .before .before .pre .0 .tested
 
 -- Past two tests the run has two slots.
 two : (c : tie.Else2) → length (c .before .before .before .before .args .order .now) ≡ 2

@@ -1,24 +1,24 @@
 -- A run of three slots: the law of three slots gives the answer by the test of all and by their keys.
 use mathlib.Core.Path.{_≡_, sym, _∙_}
 use mathlib.Core.Bool.{true}
+use native.Mathlib.Omega.{arith}
 use lib.ListN.{getD}
-use borrow.Author.Needs.{needs}
 use Rattle.theory.specs.Answers.{refused, accepted}
 use Rattle.arrange.specs.Checked.{threeAllowed, three-keyed, on-three}
 use Rattle.arrange.proofs.check.three_slots.Statement.{statement}
 use Rattle.arrange.proofs.check.three_slots.Tie as tie
 
 shared-slice-read-p : tie.Need-shared-slice-read-p
-shared-slice-read-p c = search needs
+shared-slice-read-p c = omega arith
 
 shared-slice-read-q : tie.Need-shared-slice-read-q
-shared-slice-read-q c = search needs
+shared-slice-read-q c = omega arith
 
 shared-slice-read-r : tie.Need-shared-slice-read-r
-shared-slice-read-r c = search needs
+shared-slice-read-r c = omega arith
 
 three-allowed-requires : tie.Need-three-allowed-requires
-three-allowed-requires c κs = search needs
+three-allowed-requires c κs = c .before .before .before .before .pre .0 .tested
 
 returns : tie.Need-returns
 returns c =
