@@ -5,7 +5,7 @@ use mathlib.Core.Bool.{true, false}
 use mathlib.Core.Logic.{⊎-elim}
 use Prim.Native.Nat.{ℕ, _<_, _+_, _-_, _/_, _^_}
 use native.Mathlib.Omega.{arith}
-use borrow.Author.Needs.{needs, sfits-of}
+use borrow.Author.Needs.{sfits-of}
 use mir.Syntax.{w32}
 use mir.Facts.{toZ-ofZ}
 use Rattle.terms.specs.Lent.{facesOf}
@@ -91,7 +91,7 @@ module _ (t : ℕ) where
       (w .boxed .ranges (omega arith), (w .faced .faces, (w .faced .lives, refl)))
 
   branch-enum-told : branch-lts.Need-enum-told branch-calls branch-at branch.Post
-  branch-enum-told c = search needs
+  branch-enum-told c = c .match .keys1
 
   branch-returns-2 : branch-lts.Need-returns-2 branch-calls branch-at branch.Post
   branch-returns-2 c =
@@ -99,7 +99,7 @@ module _ (t : ℕ) where
       screened-below (c .before .before .before .before .before .before .before .pre .1) _ (judged-below below)
 
   branch-enum-told-2 : branch-lts.Need-enum-told-2 branch-calls branch-at branch.Post
-  branch-enum-told-2 c = search needs
+  branch-enum-told-2 c = c .match .keys2
 
   branch-mul-t17 : branch-lts.Need-mul-t17 branch-calls branch-at branch.Post
   branch-mul-t17 c = omega arith
@@ -117,7 +117,7 @@ module _ (t : ℕ) where
       screened-above (s .pre .1) some (above .all)
 
   branch-enum-known-judged : branch-lts.Need-enum-known-judged branch-calls branch-at branch.Post
-  branch-enum-known-judged c = search needs
+  branch-enum-known-judged c = c .match .keys3
 
   branch-node-requires : branch-lts.Need-node-requires branch-calls branch-at branch.Post
   branch-node-requires c κs =

@@ -3,7 +3,7 @@
 use mathlib.Core.Path.{_≡_, refl}
 use Prim.Native.Nat.{ℕ, _<_, _+_, _-_, _/_, _^_}
 use native.Mathlib.Omega.{arith}
-use borrow.Author.Needs.{needs, sfits-of}
+use borrow.Author.Needs.{sfits-of}
 use mir.Syntax.{w32}
 use mir.Facts.{toZ-ofZ}
 use Rattle.terms.specs.Lent.{facesOf}
@@ -106,7 +106,7 @@ module _ (t : ℕ) where
   branch-add-e c = let w = c .before .before .before .before .before .pre .1 .standing in omega arith
 
   branch-enum-told : branch-lts.Need-enum-told branch-calls branch-at branch.Post
-  branch-enum-told c = search needs
+  branch-enum-told c = c .match .keys1
 
   branch-mul-copy-outside : branch-lts.Need-mul-copy-outside branch-calls branch-at branch.Post
   branch-mul-copy-outside c = omega arith
@@ -136,7 +136,7 @@ module _ (t : ℕ) where
   branch-same-length c = branch-returns-2 c .listed .filled .size
 
   branch-enum-told-2 : branch-lts.Need-enum-told-2 branch-calls branch-at branch.Post
-  branch-enum-told-2 c = search needs
+  branch-enum-told-2 c = c .match .keys2
 
   branch-mul-copy-inside : branch-lts.Need-mul-copy-inside branch-calls branch-at branch.Post
   branch-mul-copy-inside c = omega arith
@@ -169,7 +169,7 @@ module _ (t : ℕ) where
   branch-same-length-2 c = branch-returns-3 c .listed .filled .size
 
   branch-enum-known-judged : branch-lts.Need-enum-known-judged branch-calls branch-at branch.Post
-  branch-enum-known-judged c = search needs
+  branch-enum-known-judged c = c .match .keys3
 
   branch-node-requires : branch-lts.Need-node-requires branch-calls branch-at branch.Post
   branch-node-requires c κs =
