@@ -13,7 +13,7 @@ tested : (c : tie.Else1) → let a = c .before .before .before .before .args in 
 tested c = build-tested _ _ (c .before .build-refusal .ensures) (c .if1 .left)
 
 build-refusal-requires : tie.Need-build-refusal-requires
-build-refusal-requires c κs = search needs
+build-refusal-requires c κs = tt
 
 same-length : tie.Need-same-length
 same-length c = search needs

@@ -1,5 +1,4 @@
 -- A refusal of 1 to 5 is the answer; where they were passed, 9 or 0 is.
-use borrow.Author.Needs.{needs}
 use Rattle.terms.specs.Lent.{stock, orderOf}
 use Rattle.hornherder.specs.BuildOutcome.{build-tested}
 use Rattle.hornherder.specs.CheckOutcome.{check-refused, check-goes-on}
@@ -7,7 +6,7 @@ use Rattle.hornherder.proofs.check.hornherder_check.Statement.{statemen
 use Rattle.hornherder.proofs.check.hornherder_check.Tie as tie
 
 build-refusal-requires : tie.Need-build-refusal-requires
-build-refusal-requires c κs = search needs
+build-refusal-requires c κs = tt
 
 returns : tie.Need-returns
 returns c = check-refused _ _ (c .before .build-refusal .ensures) (c .if1 .taken)

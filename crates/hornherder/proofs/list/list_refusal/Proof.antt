@@ -3,7 +3,6 @@ use mathlib.Core.Path.{refl}
 use mathlib.Core.List.{List, _++_}
 use Prim.Native.Nat.{ℕ}
 use lib.ListN.{length}
-use borrow.Author.Needs.{needs}
 use Rattle.terms.specs.Lent.{stock}
 use Rattle.terms.specs.Refusals.{Refusal, stockRefusals, roomRefusals, coordinateRefusals}
 use Rattle.theory.specs.Tested.{TestedPoints}
@@ -40,13 +39,13 @@ tested c =
     stock-passed _ (first-passed refl (e .before .stock-refusal .ensures) (e .if1 .left)) (first-passed refl (c .before .coordinate-refusal .ensures) (c .if4 .left))
 
 stock-refusal-requires : tie.Need-stock-refusal-requires
-stock-refusal-requires c κs = search needs
+stock-refusal-requires c κs = tt
 
 returns : tie.Need-returns
 returns c = first-stops _ (c .before .stock-refusal .ensures) (c .if1 .taken)
 
 room-refusal-requires : tie.Need-room-refusal-requires
-room-refusal-requires c κs = search needs
+room-refusal-requires c κs = tt
 
 returns-2 : tie.Need-returns-2
 unfolding noZero
@@ -55,13 +54,13 @@ returns-2 c =
     (first-stops _ (c .before .room-refusal .ensures) (c .if2 .taken))
 
 room-refusal-requires-2 : tie.Need-room-refusal-requires-2
-room-refusal-requires-2 c κs = search needs
+room-refusal-requires-2 c κs = tt
 
 returns-3 : tie.Need-returns-3
 returns-3 c = past-2 (c .before .before) (first-stops _ (c .before .room-refusal2 .ensures) (c .if3 .taken))
 
 coordinate-refusal-requires : tie.Need-coordinate-refusal-requires
-coordinate-refusal-requires c κs = search needs
+coordinate-refusal-requires c κs = tt
 
 returns-4 : tie.Need-returns-4
 unfolding noZero

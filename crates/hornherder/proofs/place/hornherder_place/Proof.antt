@@ -1,7 +1,6 @@
 -- A refusal is the answer; where all was passed, the test of the one point, read into a value, against all faces is.
 use mathlib.Core.Path.{refl, sym, _∙_}
 use mathlib.Core.Bool.{true, false}
-use borrow.Author.Needs.{needs}
 use Rattle.terms.specs.Lent.{faces}
 use Rattle.theory.specs.PlaceCall.{PlacePassed}
 use Rattle.descent.specs.Points.{has-point}
@@ -10,7 +9,7 @@ use Rattle.hornherder.proofs.place.hornherder_place.Statement.{statemen
 use Rattle.hornherder.proofs.place.hornherder_place.Tie as tie
 
 place-refusal-requires : tie.Need-place-refusal-requires
-place-refusal-requires c κs = search needs
+place-refusal-requires c κs = tt
 
 returns : tie.Need-returns
 returns c = place-refused _ _ _ (c .before .place-refusal .ensures) (c .if1 .taken)

@@ -1,6 +1,5 @@
 -- Each group gives the number where it refuses; where it was passed the next one does.
 use mathlib.Core.Path.{refl}
-use borrow.Author.Needs.{needs}
 use Rattle.theory.specs.FirstRefusal.{noZero}
 use Rattle.theory.specs.RefusalsPassed.{dimension-passed}
 use Rattle.hornherder.specs.First.{first-stops, first-passed, first-goes-on}
@@ -8,13 +7,13 @@ use Rattle.hornherder.proofs.place.place_refusal.Statement.{statement}
 use Rattle.hornherder.proofs.place.place_refusal.Tie as tie
 
 dimension-refusal-requires : tie.Need-dimension-refusal-requires
-dimension-refusal-requires c κs = search needs
+dimension-refusal-requires c κs = tt
 
 returns : tie.Need-returns
 returns c = first-stops _ (c .before .dimension-refusal .ensures) (c .if1 .taken)
 
 length-refusal-requires : tie.Need-length-refusal-requires
-length-refusal-requires c κs = search needs
+length-refusal-requires c κs = tt
 
 returns-2 : tie.Need-returns-2
 unfolding noZero
@@ -26,7 +25,7 @@ returns-2 c =
     (first-stops _ (c .before .length-refusal .ensures) (c .if2 .taken))
 
 coordinate-refusal-requires : tie.Need-coordinate-refusal-requires
-coordinate-refusal-requires c κs = search needs
+coordinate-refusal-requires c κs = tt
 
 returns-3 : tie.Need-returns-3
 unfolding noZero

@@ -1,13 +1,12 @@
 -- What `all_within` answers is the test of the group, the other way round.
 use mathlib.Core.Path.{ap, sym, _∙_}
 use mathlib.Core.Bool.{not}
-use borrow.Author.Needs.{needs}
 use Rattle.hornherder.specs.First.{first-none, first-holds, first-passes}
 use Rattle.hornherder.proofs.refuse.coordinate_refusal.Statement.{statement}
 use Rattle.hornherder.proofs.refuse.coordinate_refusal.Tie as tie
 
 all-within-requires : tie.Need-all-within-requires
-all-within-requires c κs = search needs
+all-within-requires c κs = tt
 
 returns : tie.Need-returns
 returns c = first-holds (ap not (sym (c .before .all-within .ensures)) ∙ c .if1 .taken)

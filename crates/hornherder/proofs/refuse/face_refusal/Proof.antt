@@ -1,6 +1,5 @@
 -- Each group gives the number where it refuses; where it was passed the next one does.
 use mathlib.Core.Path.{refl}
-use borrow.Author.Needs.{needs}
 use Rattle.theory.specs.FirstRefusal.{noZero}
 use Rattle.theory.specs.RefusalsPassed.{face-count-passed}
 use Rattle.hornherder.specs.First.{first-stops, first-passed, first-goes-on}
@@ -8,7 +7,7 @@ use Rattle.hornherder.proofs.refuse.face_refusal.Statement.{statement}
 use Rattle.hornherder.proofs.refuse.face_refusal.Tie as tie
 
 face-count-refusal-requires : tie.Need-face-count-refusal-requires
-face-count-refusal-requires c κs = search needs
+face-count-refusal-requires c κs = tt
 
 returns : tie.Need-returns
 returns c = first-stops _ (c .before .face-count-refusal .ensures) (c .if1 .taken)
@@ -27,7 +26,7 @@ returns-2 c =
     (first-stops _ (c .before .face-length-refusal .ensures) (c .if2 .taken))
 
 face-range-refusal-requires : tie.Need-face-range-refusal-requires
-face-range-refusal-requires c κs = search needs
+face-range-refusal-requires c κs = tt
 
 returns-3 : tie.Need-returns-3
 unfolding noZero

@@ -2,7 +2,6 @@
 use mathlib.Core.Path.{refl}
 use native.Mathlib.Omega.{arith}
 use native.Mathlib.Nat.{mul-le-mul}
-use borrow.Author.Needs.{needs}
 use Rattle.theory.specs.FirstRefusal.{noZero}
 use Rattle.theory.specs.RefusalsPassed.{dimension-passed, size-passed}
 use Rattle.hornherder.specs.First.{first-stops, first-passed, first-goes-on}
@@ -10,13 +9,13 @@ use Rattle.hornherder.proofs.refuse.stock_refusal.Statement.{statement}
 use Rattle.hornherder.proofs.refuse.stock_refusal.Tie as tie
 
 dimension-refusal-requires : tie.Need-dimension-refusal-requires
-dimension-refusal-requires c κs = search needs
+dimension-refusal-requires c κs = tt
 
 returns : tie.Need-returns
 returns c = first-stops _ (c .before .dimension-refusal .ensures) (c .if1 .taken)
 
 size-refusal-requires : tie.Need-size-refusal-requires
-size-refusal-requires c κs = search needs
+size-refusal-requires c κs = tt
 
 returns-2 : tie.Need-returns-2
 unfolding noZero
@@ -36,7 +35,7 @@ mul-length-refusal c =
     omega (arith, mul-le-mul few many)
 
 length-refusal-requires : tie.Need-length-refusal-requires
-length-refusal-requires c κs = search needs
+length-refusal-requires c κs = tt
 
 returns-3 : tie.Need-returns-3
 unfolding noZero

@@ -3,22 +3,22 @@ use mathlib.Core.Path.{_≡_, ap, sym, _∙_}
 use mathlib.Core.Bool.{not}
 use Prim.Native.Nat.{_-_}
 use native.Mathlib.Omega.{arith}
-use borrow.Author.Needs.{needs}
+use lib.ListN.{length-take}
 use Rattle.hornherder.specs.First.{first-none, first-holds, first-passes}
 use Rattle.hornherder.proofs.refuse.tree_refusal.Statement.{statement}
 use Rattle.hornherder.proofs.refuse.tree_refusal.Tie as tie
 
 sub-check : tie.Need-sub-check
-sub-check c = search needs
+sub-check c = omega arith
 
 part-check-start : tie.Need-part-check-start
-part-check-start c = search needs
+part-check-start c = omega arith
 
 part-check-end : tie.Need-part-check-end
-part-check-end c = search needs
+part-check-end c = omega arith
 
 check-requires : tie.Need-check-requires
-check-requires c κs = search needs
+check-requires c κs = (c .before .before .pre .0, simp length-take (omega arith))
 
 returns : tie.Need-returns
 returns c =

@@ -5,7 +5,6 @@ use Prim.Native.Nat.{ℕ, _-_, _≤_}
 use native.Mathlib.Omega.{arith}
 use lib.ListN.{length, take}
 use lib.Seq.{length-take-le}
-use borrow.Author.Needs.{needs}
 use Rattle.terms.specs.Lent.{stock, orderOf, faces}
 use Rattle.terms.specs.Points.{coord}
 use Rattle.terms.specs.Region.{region}
@@ -40,7 +39,7 @@ few c =
     omega (arith, screen-visits-most (found c), slots, passed e .tested .many)
 
 screen-refusal-requires : tie.Need-screen-refusal-requires
-screen-refusal-requires c κs = search needs
+screen-refusal-requires c κs = tt
 
 returns : tie.Need-returns
 returns c = screen-refused _ _ _ (c .before .screen-refusal .ensures) (c .if1 .taken)
@@ -49,10 +48,10 @@ root-box-requires : tie.Need-root-box-requires
 root-box-requires c κs = passed c .tested
 
 sub-screen : tie.Need-sub-screen
-sub-screen c = search needs
+sub-screen c = omega arith
 
 part-screen-start : tie.Need-part-screen-start
-part-screen-start c = search needs
+part-screen-start c = omega arith
 
 part-screen-end : tie.Need-part-screen-end
 part-screen-end c = passed (c .before) .room

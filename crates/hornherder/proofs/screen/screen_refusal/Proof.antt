@@ -1,6 +1,5 @@
 -- Each group gives the number where it refuses; where it was passed the next one does.
 use mathlib.Core.Path.{refl}
-use borrow.Author.Needs.{needs}
 use Rattle.terms.specs.Lent.{stock, orderOf}
 use Rattle.theory.specs.FirstRefusal.{noZero}
 use Rattle.theory.specs.BuildCall.{BuildPassed}
@@ -14,7 +13,7 @@ tested : (c : tie.Else1) → let a = c .before .before .before .args in BuildPas
 tested c = build-tested _ _ (c .before .build-refusal .ensures) (c .if1 .left)
 
 build-refusal-requires : tie.Need-build-refusal-requires
-build-refusal-requires c κs = search needs
+build-refusal-requires c κs = tt
 
 returns : tie.Need-returns
 returns c = first-stops _ (c .before .build-refusal .ensures) (c .if1 .taken)
