@@ -91,20 +91,20 @@ impl CgalTree {
 
     /// Writes the numbers inside the region, in the tree's own order, and gives how many there are. The buffer must hold all numbers.
     pub fn list(&self, region: &Region, found: &mut [u32]) -> usize {
-        let (normals, offsets) = (region.normals.as_ptr(), region.offsets.as_ptr());
+        let (normals, least) = (region.normals.as_ptr(), region.least.as_ptr());
         // SAFETY: the faces are as long as h and k say, and the buffer holds all numbers.
         unsafe {
             let found = found.as_mut_ptr();
-            cgal_list(self.tree, self.k, region.h, normals, offsets, found)
+            cgal_list(self.tree, self.k, region.h, normals, least, found)
         }
     }
 
     /// The number of the first point inside the region that the search comes to, in the tree's own order, if there is one.
     pub fn any(&self, region: &Region) -> Option<u32> {
-        let (normals, offsets) = (region.normals.as_ptr(), region.offsets.as_ptr());
+        let (normals, least) = (region.normals.as_ptr(), region.least.as_ptr());
         let mut number = 0;
         // SAFETY: the faces are as long as h and k say, and there is room for one number.
-        let found = unsafe { cgal_any(self.tree, self.k, region.h, normals, offsets, &mut number) };
+        let found = unsafe { cgal_any(self.tree, self.k, region.h, normals, least, &mut number) };
         (found == 1).then_some(number)
     }
 }
@@ -125,7 +125,7 @@ pub fn scan(stock: &Stock, order: &[u32], region: &Region, list: &mut [u32]) -> 
     unsafe {
         scan_slots(
             stock.k, stock.n, region.h, stock.points.as_ptr(), order.as_ptr(),
-            region.normals.as_ptr(), region.offsets.as_ptr(), list.as_mut_ptr(),
+            region.normals.as_ptr(), region.least.as_ptr(), list.as_mut_ptr(),
         )
     }
 }
@@ -138,7 +138,7 @@ pub fn scan_by_number(stock: &Stock, region: &Region, list: &mut [u32]) -> usize
     unsafe {
         scan_numbers(
             stock.k, stock.n, region.h, stock.points.as_ptr(),
-            region.normals.as_ptr(), region.offsets.as_ptr(), list.as_mut_ptr(),
+            region.normals.as_ptr(), region.least.as_ptr(), list.as_mut_ptr(),
         )
     }
 }

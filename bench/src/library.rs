@@ -19,13 +19,13 @@ pub fn check(stock: &Stock, order: &[u32]) -> u32 {
 /// Lists the numbers inside and outside the region.
 #[rustfmt::skip]
 pub fn list(stock: &Stock, order: &[u32], region: &Region, list: &mut [u32]) -> Listing {
-    let (normals, offsets) = (&region.normals, &region.offsets);
-    raw::list(stock.k, stock.n, region.h, &stock.points, order, normals, offsets, list)
+    let (normals, offsets, marks) = (&region.normals, &region.offsets, &region.marks);
+    raw::list(stock.k, stock.n, region.h, &stock.points, order, normals, offsets, marks, list)
 }
 
 /// Finds the first number inside the region.
 #[rustfmt::skip]
 pub fn screen(stock: &Stock, order: &[u32], region: &Region) -> Screening {
-    let (normals, offsets) = (&region.normals, &region.offsets);
-    raw::screen(stock.k, stock.n, region.h, &stock.points, order, normals, offsets)
+    let (normals, offsets, marks) = (&region.normals, &region.offsets, &region.marks);
+    raw::screen(stock.k, stock.n, region.h, &stock.points, order, normals, offsets, marks)
 }

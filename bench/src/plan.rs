@@ -122,7 +122,7 @@ fn some_regions(stock: &Stock, seed: u64) -> Vec<Region> {
     ]
 }
 
-/// Slanted ones of every number of faces and every share, and square boxes.
+/// Slanted ones of every number of faces and every share, and square boxes; and two with every other face open.
 fn all_regions(stock: &Stock, seed: u64) -> Vec<Region> {
     let mut out = Vec::new();
     for h in [6, 8, 14, 32] {
@@ -131,6 +131,7 @@ fn all_regions(stock: &Stock, seed: u64) -> Vec<Region> {
         }
     }
     out.extend([0.001, 0.01, 0.05].map(|share| square(stock, share, seed)));
+    out.extend([8, 32].map(|h| slanted(stock, h, 0.01, seed).half_open()));
     out
 }
 

@@ -13,6 +13,34 @@ pub struct Region {
     pub h: usize,
     pub normals: Vec<i32>,
     pub offsets: Vec<i64>,
+    pub marks: Vec<u8>,
+    /// The least sum that is above each face: for the other contenders, who then need no marks.
+    pub least: Vec<i64>,
+}
+
+impl Region {
+    /// A region of closed faces.
+    fn closed(kind: &'static str, share: f64, normals: Vec<i32>, offsets: Vec<i64>) -> Region {
+        Region {
+            kind,
+            share,
+            h: offsets.len(),
+            normals,
+            marks: vec![0; offsets.len()],
+            least: offsets.clone(),
+            offsets,
+        }
+    }
+
+    /// The same region with every other face open, its offset one less.
+    pub fn half_open(mut self) -> Region {
+        self.kind = "slanted, half open";
+        for face in (1..self.h).step_by(2) {
+            self.marks[face] = 1;
+            self.offsets[face] -= 1;
+        }
+        self
+    }
 }
 
 /// The sum of the products of a normal and a point.
@@ -23,8 +51,8 @@ fn sum(normal: &[i32], point: &[i32]) -> i64 {
 
 /// Whether a region holds a point.
 fn holds(region: &Region, point: &[i32]) -> bool {
-    let mut faces = region.normals.chunks(point.len()).zip(&region.offsets);
-    faces.all(|(normal, &offset)| sum(normal, point) >= offset)
+    let mut faces = region.normals.chunks(point.len()).zip(&region.least);
+    faces.all(|(normal, &least)| sum(normal, point) >= least)
 }
 
 /// The length of a normal.
@@ -51,8 +79,7 @@ pub fn first_slot(stock: &Stock, order: &[u32], h: usize, share: f64, seed: u64)
 /// A region of slanted faces whose first pair was moved into the widest gap between the points inside, so that it holds none. The gap is
 /// looked for in the middle half of them.
 pub fn emptied(stock: &Stock, h: usize, share: f64, seed: u64) -> Region {
-    let mut region = slanted(stock, h, share, seed);
-    region.kind = "slanted, emptied";
+    let region = slanted(stock, h, share, seed);
     let k = stock.k;
     let held = stock.points.chunks(k).filter(|point| holds(&region, point));
     let mut sums: Vec<i64> = held.map(|point| sum(&region.normals[..k], point)).collect();
@@ -60,9 +87,10 @@ pub fn emptied(stock: &Stock, h: usize, share: f64, seed: u64) -> Region {
     let middle = &sums[sums.len() / 4..sums.len() - sums.len() / 4];
     let gaps = middle.windows(2);
     let widest = gaps.max_by_key(|gap| gap[1] - gap[0]).expect("two points");
-    region.offsets[0] = widest[0] + 1;
-    region.offsets[1] = 1 - widest[1];
-    region
+    let mut offsets = region.offsets;
+    offsets[0] = widest[0] + 1;
+    offsets[1] = 1 - widest[1];
+    Region::closed("slanted, emptied", share, region.normals, offsets)
 }
 
 /// A box with two faces across each dimension that holds this share of the shelf around one of its points.
@@ -79,14 +107,8 @@ pub fn square(stock: &Stock, share: f64, seed: u64) -> Region {
 
 /// As many faces as are allowed, all of them the plane of sum 0 but for their scale.
 pub fn one_plane(k: usize) -> Region {
-    let h = 32;
-    Region {
-        kind: "one plane",
-        share: 1.0,
-        h,
-        normals: (0..h).flat_map(|face| vec![face as i32 + 1; k]).collect(),
-        offsets: vec![0; h],
-    }
+    let normals = (0..32).flat_map(|face| vec![face + 1; k]).collect();
+    Region::closed("one plane", 1.0, normals, vec![0; 32])
 }
 
 /// The normals of so many slanted faces, in pairs of opposite ones.
@@ -149,11 +171,6 @@ fn around(
     let faces = normals.chunks(k).zip(&lengths);
     let offset = |(normal, length): (&[i32], &f64)| sum(normal, centre) as f64 - reach * length;
     let offsets = faces.map(|face| offset(face).floor().clamp(-FURTHEST, FURTHEST) as i64);
-    Region {
-        kind,
-        share,
-        h: lengths.len(),
-        offsets: offsets.collect(),
-        normals,
-    }
+    let offsets = offsets.collect();
+    Region::closed(kind, share, normals, offsets)
 }

@@ -22,10 +22,10 @@ pub fn scan(stock: &Stock, order: &[u32], region: &Region, list: &mut [u32]) -> 
 /// Whether the point is above every face.
 fn inside(point: &[i32], region: &Region) -> bool {
     let normals = region.normals.chunks_exact(point.len());
-    let mut faces = normals.zip(&region.offsets);
-    faces.all(|(normal, &offset)| {
+    let mut faces = normals.zip(&region.least);
+    faces.all(|(normal, &least)| {
         let products = normal.iter().zip(point);
         let sum: i64 = products.map(|(&a, &b)| i64::from(a) * i64::from(b)).sum();
-        sum >= offset
+        sum >= least
     })
 }

@@ -195,7 +195,7 @@ impl Walk<'_> {
                 sum += i64::from(component) * i64::from(coordinate);
             }
         }
-        sum >= self.region.offsets[face]
+        sum >= self.region.least[face]
     }
 
     /// The coordinates of a number, in a row of four.

@@ -18,11 +18,15 @@
  * coordinate and, where two are equal, by number. Points and ties leave exactly one such order of
  * 0 to n - 1.
  *
- * The region. It is cut by h faces. Face f has the normal normals[f * k] to normals[f * k + k - 1]
- * and the offset offsets[f]. A point x is above face f when the sum over s of normals[f * k + s] *
- * x[s] is at least offsets[f], so a point on a face is above it. A point is inside when it is
- * above every face, else outside. With no faces every point is inside. A normal of all zeros is
- * allowed.
+ * The region. It is cut by h faces. Face f has the normal normals[f * k] to normals[f * k + k - 1],
+ * the offset offsets[f] and the mark marks[f], 0 for a closed face and 1 for an open one. A point x
+ * is above a closed face when the sum over s of normals[f * k + s] * x[s] is at least offsets[f],
+ * above an open one when that sum is strictly greater; so a point on a face is above it exactly
+ * where the face is closed. A point is inside when it is above every face, else outside. With no
+ * faces every point is inside. A normal of all zeros is allowed.
+ *
+ * Regions side by side. Give one of them the face between them closed, and the other the same face
+ * open, with its normal and its offset negated: every point is then above exactly one of the two.
  *
  * Buffers. Each buffer is lent as a pointer and a length, which counts elements, not bytes. The
  * pointer may be NULL exactly where the length is 0. It must be aligned for its type, as every
@@ -30,11 +34,12 @@
  * not written. An order or a list buffer may be longer than n: its places from n on are neither
  * read nor written. The calls allocate nothing, and keep nothing once they have returned.
  *
- * Refusals. A call that cannot be done returns one of the numbers below. It makes its tests in
- * rising order of these numbers, all of them before its first write, and returns the lowest that
- * holds. A refused call changes no lent number, and every other number in its answer is 0. Apart
- * from the rules on buffers above there is nothing that a caller must see to: any k, n, h, lengths
- * and lent numbers get the answer promised here. hornherder_refusal_text says what a number means.
+ * Refusals. A call that cannot be done returns one of the numbers below. Each call names those that
+ * it may return in the order of its tests, makes all the tests before its first write, and returns
+ * the first that holds. A refused call changes no lent number, and every other number in its answer
+ * is 0. Apart from the rules on buffers above there is nothing that a caller must see to: any k, n,
+ * h, lengths and lent numbers get the answer promised here. hornherder_refusal_text says what a
+ * number means.
  *
  * Threads. The library has no state. Any number of threads may call at once, as long as nobody
  * writes a buffer while it is lent, and nobody reads one while it is lent to be written.
@@ -67,7 +72,7 @@ extern "C" {
  * and the shared library has behind its name. It rises by one with each change of a name, a layout
  * or the meaning of a number.
  */
-#define HORNHERDER_VERSION 3
+#define HORNHERDER_VERSION 4
 
 /* k, how many coordinates a point has. */
 #define HORNHERDER_MIN_DIMENSION 1
@@ -91,6 +96,10 @@ extern "C" {
 #define HORNHERDER_MIN_OFFSET (-INT64_C(8589934592))
 #define HORNHERDER_MAX_OFFSET INT64_C(8589934592)
 
+/* A mark: whether a face is closed or open. */
+#define HORNHERDER_CLOSED_FACE 0
+#define HORNHERDER_OPEN_FACE 1
+
 /* The stack that is enough for any call, in bytes. */
 #define HORNHERDER_STACK_BYTES 32768
 
@@ -105,6 +114,7 @@ extern "C" {
 #define HORNHERDER_FACES_LENGTH 7u
 #define HORNHERDER_FACE_RANGE 8u
 #define HORNHERDER_NOT_THE_TREE 9u
+#define HORNHERDER_MARKS 11u
 
 /* When a call returns this number, and the likely cause. */
 static inline const char *hornherder_refusal_text(uint32_t number)
@@ -137,6 +147,9 @@ static inline const char *hornherder_refusal_text(uint32_t number)
     case HORNHERDER_NOT_THE_TREE:
         return "the first n slots are not the tree of these points; "
                "likely: the points changed, or the order is of another shelf: build again";
+    case HORNHERDER_MARKS:
+        return "the marks are not h long, or a mark is not 0 or 1; "
+               "likely: closed faces left without a mark, or marks never set";
     default:
         return "no number of this version";
     }
@@ -183,7 +196,7 @@ uint32_t hornherder_build(size_t k, size_t n, const int32_t *points, size_t poin
  *   points   k * n coordinates, each -32,768 to 32,767
  *   order    at least n places, which may hold any numbers
  *
- * Returns HORNHERDER_DONE, or a refusal: 1 to 5 and 9.
+ * Returns HORNHERDER_DONE, or a refusal: 1 to 5, then 9.
  */
 uint32_t hornherder_check(size_t k, size_t n, const int32_t *points, size_t points_len,
                           const uint32_t *order, size_t order_len);
@@ -195,6 +208,7 @@ uint32_t hornherder_check(size_t k, size_t n, const int32_t *points, size_t poin
  *   order    at least n places; the first n must be the shelf of these points
  *   normals  k * h components, each -32,767 to 32,767
  *   offsets  h offsets, each -8,589,934,592 to 8,589,934,592
+ *   marks    h marks, each 0 (closed) or 1 (open)
  *   list     at least n places, to be written
  *
  * Where it is done, list[0] to list[n - 1] hold each number once: those inside from the front, in
@@ -220,12 +234,13 @@ uint32_t hornherder_check(size_t k, size_t n, const int32_t *points, size_t poin
  * with j / k rounded down and H the number of binary digits of n. S(65535, k) is 16, 765, 3411 and
  * 8775 for k = 1 to 4.
  *
- * Answers HORNHERDER_DONE with the three counts, or a refusal, 1 to 9, with zeros.
+ * Answers HORNHERDER_DONE with the three counts, or a refusal, 1 to 8, then 11, then 9, with zeros.
  */
 hornherder_listing hornherder_list(size_t k, size_t n, size_t h, const int32_t *points,
                                    size_t points_len, const uint32_t *order, size_t order_len,
                                    const int32_t *normals, size_t normals_len,
-                                   const int64_t *offsets, size_t offsets_len, uint32_t *list,
+                                   const int64_t *offsets, size_t offsets_len,
+                                   const uint8_t *marks, size_t marks_len, uint32_t *list,
                                    size_t list_len);
 
 /*
@@ -236,6 +251,7 @@ hornherder_listing hornherder_list(size_t k, size_t n, size_t h, const int32_t *
  *   order    at least n places; the first n must be the shelf of these points
  *   normals  k * h components, each -32,767 to 32,767
  *   offsets  h offsets, each -8,589,934,592 to 8,589,934,592
+ *   marks    h marks, each 0 (closed) or 1 (open)
  *
  * Found is 1 exactly where hornherder_list, called with the same, counts a point inside, and the
  * number is then its list[0]. Point 0 may be the one that is found: ask found, and not the number.
@@ -244,12 +260,14 @@ hornherder_listing hornherder_list(size_t k, size_t n, size_t h, const int32_t *
  * one; all open slots where none is found. They are counted by slot: a node to the right of the
  * found slot is not counted, though the way to that slot may lead through it.
  *
- * Answers HORNHERDER_DONE with found, number and visits, or a refusal, 1 to 9, with zeros.
+ * Answers HORNHERDER_DONE with found, number and visits, or a refusal, 1 to 8, then 11, then 9,
+ * with zeros.
  */
 hornherder_screening hornherder_screen(size_t k, size_t n, size_t h, const int32_t *points,
                                        size_t points_len, const uint32_t *order, size_t order_len,
                                        const int32_t *normals, size_t normals_len,
-                                       const int64_t *offsets, size_t offsets_len);
+                                       const int64_t *offsets, size_t offsets_len,
+                                       const uint8_t *marks, size_t marks_len);
 
 /*
  * Tests one point against a region.
@@ -257,12 +275,14 @@ hornherder_screening hornherder_screen(size_t k, size_t n, size_t h, const int32
  *   point    k coordinates, each -32,768 to 32,767
  *   normals  k * h components, each -32,767 to 32,767
  *   offsets  h offsets, each -8,589,934,592 to 8,589,934,592
+ *   marks    h marks, each 0 (closed) or 1 (open)
  *
- * Answers HORNHERDER_DONE with inside 1 or 0, or a refusal, 1, 3 or 5 to 8, with 0.
+ * Answers HORNHERDER_DONE with inside 1 or 0, or a refusal, 1, 3, 5 to 8, then 11, with 0.
  */
 hornherder_placing hornherder_place(size_t k, size_t h, const int32_t *point, size_t point_len,
                                     const int32_t *normals, size_t normals_len,
-                                    const int64_t *offsets, size_t offsets_len);
+                                    const int64_t *offsets, size_t offsets_len,
+                                    const uint8_t *marks, size_t marks_len);
 
 /*
  * Answers the version of the library: HORNHERDER_VERSION where it belongs to this file. With any

@@ -128,28 +128,30 @@ uint32_t hornherder_check(size_t k, size_t n, const int32_t *points, size_t poin
 
 hornherder_listing hornherder_list(size_t k, size_t n, size_t h, const int32_t *points, size_t points_len, const uint32_t *order,
                                    size_t order_len, const int32_t *normals, size_t normals_len, const int64_t *offsets,
-                                   size_t offsets_len, uint32_t *list, size_t list_len)
+                                   size_t offsets_len, const uint8_t *marks, size_t marks_len, uint32_t *list, size_t list_len)
 {
-    const lent buffers[WIRE_BUFFERS] = {
-        {points, points_len, 0}, {order, order_len, 0}, {normals, normals_len, 0}, {offsets, offsets_len, 0}, {list, list_len, 1}};
+    const lent buffers[WIRE_BUFFERS] = {{points, points_len, 0},   {order, order_len, 0}, {normals, normals_len, 0},
+                                        {offsets, offsets_len, 0}, {marks, marks_len, 0}, {list, list_len, 1}};
     return forward(WIRE_LIST, k, n, h, buffers);
 }
 
 hornherder_screening hornherder_screen(size_t k, size_t n, size_t h, const int32_t *points, size_t points_len, const uint32_t *order,
                                        size_t order_len, const int32_t *normals, size_t normals_len, const int64_t *offsets,
-                                       size_t offsets_len)
+                                       size_t offsets_len, const uint8_t *marks, size_t marks_len)
 {
     const lent buffers[WIRE_BUFFERS] = {
-        {points, points_len, 0}, {order, order_len, 0}, {normals, normals_len, 0}, {offsets, offsets_len, 0}};
+        {points, points_len, 0}, {order, order_len, 0}, {normals, normals_len, 0}, {offsets, offsets_len, 0}, {marks, marks_len, 0}};
     hornherder_listing answer = forward(WIRE_SCREEN, k, n, h, buffers);
     hornherder_screening screening = {answer.code, answer.inside, answer.outside, answer.visits};
     return screening;
 }
 
 hornherder_placing hornherder_place(size_t k, size_t h, const int32_t *point, size_t point_len, const int32_t *normals,
-                                    size_t normals_len, const int64_t *offsets, size_t offsets_len)
+                                    size_t normals_len, const int64_t *offsets, size_t offsets_len, const uint8_t *marks,
+                                    size_t marks_len)
 {
-    const lent buffers[WIRE_BUFFERS] = {{point, point_len, 0}, {NULL, 0, 0}, {normals, normals_len, 0}, {offsets, offsets_len, 0}};
+    const lent buffers[WIRE_BUFFERS] = {
+        {point, point_len, 0}, {NULL, 0, 0}, {normals, normals_len, 0}, {offsets, offsets_len, 0}, {marks, marks_len, 0}};
     hornherder_listing answer = forward(WIRE_PLACE, k, 0, h, buffers);
     hornherder_placing placing = {answer.code, answer.inside};
     return placing;

@@ -13,13 +13,13 @@ int mprotect(void *at, size_t size, int may);
 void _exit(int status) __attribute__((noreturn));
 
 enum { PAGE = 4096, MAY_READ_AND_WRITE = 3, MAY_NOTHING = 0, PRIVATE_AND_EMPTY = 0x22 };
-enum { MARKS = 4096, MARK = 0x5AE1F };
+enum { STACK_MARKS = 4096, STACK_MARK = 0x5AE1F };
 
 /* Just behind the last byte of each buffer. */
 static unsigned char *ends[WIRE_BUFFERS];
 
 /* The marks on the stack, beyond what a call may use. */
-static volatile uint32_t *marks;
+static volatile uint32_t *stack_marks;
 
 /* Reads so many bytes, or ends: well where the input is over before the first, badly where it breaks off. */
 static void take(void *bytes, size_t count, int may_end)
@@ -59,17 +59,17 @@ static void make_room(void)
 /* Marks the stack just beyond what a call may use. Its frame lies where a call's frames will, and is gone by then. */
 static void __attribute__((noinline)) mark_stack(void)
 {
-    volatile uint32_t frame[MARKS + HORNHERDER_STACK_BYTES / sizeof(uint32_t)];
-    for (int i = 0; i < MARKS; i++)
-        frame[i] = MARK;
-    marks = frame;
+    volatile uint32_t frame[STACK_MARKS + HORNHERDER_STACK_BYTES / sizeof(uint32_t)];
+    for (int i = 0; i < STACK_MARKS; i++)
+        frame[i] = STACK_MARK;
+    stack_marks = frame;
 }
 
 /* Ends badly where a mark is gone. */
 static void look_at_stack(void)
 {
-    for (int i = 0; i < MARKS; i++)
-        if (marks[i] != MARK)
+    for (int i = 0; i < STACK_MARKS; i++)
+        if (stack_marks[i] != STACK_MARK)
             _exit(1);
 }
 
@@ -78,6 +78,7 @@ static hornherder_listing call(const wire_request *r, void **b)
 {
     const int32_t *points = (const int32_t *)b[WIRE_POINTS], *normals = (const int32_t *)b[WIRE_NORMALS];
     const int64_t *offsets = (const int64_t *)b[WIRE_OFFSETS];
+    const uint8_t *marks = (const uint8_t *)b[WIRE_MARKS];
     uint32_t *order = (uint32_t *)b[WIRE_ORDER], *list = (uint32_t *)b[WIRE_LIST_BUFFER];
     const uint64_t *length = r->length;
     hornherder_listing answer = {0, 0, 0, 0};
@@ -92,10 +93,11 @@ static hornherder_listing call(const wire_request *r, void **b)
         return answer;
     case WIRE_LIST:
         return hornherder_list(r->k, r->n, r->h, points, length[WIRE_POINTS], order, length[WIRE_ORDER], normals,
-                               length[WIRE_NORMALS], offsets, length[WIRE_OFFSETS], list, length[WIRE_LIST_BUFFER]);
+                               length[WIRE_NORMALS], offsets, length[WIRE_OFFSETS], marks, length[WIRE_MARKS], list,
+                               length[WIRE_LIST_BUFFER]);
     case WIRE_SCREEN:
         screening = hornherder_screen(r->k, r->n, r->h, points, length[WIRE_POINTS], order, length[WIRE_ORDER], normals,
-                                      length[WIRE_NORMALS], offsets, length[WIRE_OFFSETS]);
+                                      length[WIRE_NORMALS], offsets, length[WIRE_OFFSETS], marks, length[WIRE_MARKS]);
         answer.code = screening.code;
         answer.inside = screening.found;
         answer.outside = screening.number;
@@ -103,7 +105,7 @@ static hornherder_listing call(const wire_request *r, void **b)
         return answer;
     case WIRE_PLACE:
         placing = hornherder_place(r->k, r->h, points, length[WIRE_POINTS], normals, length[WIRE_NORMALS], offsets,
-                                   length[WIRE_OFFSETS]);
+                                   length[WIRE_OFFSETS], marks, length[WIRE_MARKS]);
         answer.code = placing.code;
         answer.inside = placing.inside;
         return answer;

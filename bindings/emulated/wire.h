@@ -11,7 +11,7 @@
 enum { WIRE_BUILD, WIRE_CHECK, WIRE_LIST, WIRE_SCREEN, WIRE_PLACE, WIRE_VERSION };
 
 /* The buffers. A call that has no such buffer lends it as NULL and 0; hornherder_place has its point in the first. */
-enum { WIRE_POINTS, WIRE_ORDER, WIRE_NORMALS, WIRE_OFFSETS, WIRE_LIST_BUFFER, WIRE_BUFFERS };
+enum { WIRE_POINTS, WIRE_ORDER, WIRE_NORMALS, WIRE_OFFSETS, WIRE_MARKS, WIRE_LIST_BUFFER, WIRE_BUFFERS };
 
 /* The most bytes that a buffer may have here: enough for all that the library accepts and some more. */
 #define WIRE_ROOM ((size_t)4 << 20)
@@ -25,7 +25,14 @@ typedef struct {
 /* The bytes of one element of a buffer. */
 static inline size_t wire_width(int buffer)
 {
-    return buffer == WIRE_OFFSETS ? sizeof(int64_t) : sizeof(int32_t);
+    switch (buffer) {
+    case WIRE_OFFSETS:
+        return sizeof(int64_t);
+    case WIRE_MARKS:
+        return sizeof(uint8_t);
+    default:
+        return sizeof(int32_t);
+    }
 }
 
 #endif

@@ -1,7 +1,7 @@
 //! Both visit bounds, and how near the square one is attained.
 
 use crate::lent::Lent;
-use second::region::{faces, open, BranchBox};
+use second::region::{open, BranchBox};
 use second::shelf::Shelf;
 use second::visits::{branch_box, root_box};
 use second::{is_square, s};
@@ -21,8 +21,7 @@ fn visits_alone(lent: &Lent) -> Vec<u64> {
             .map(|slot| branch_box(&shelf, &root, slot))
             .collect(),
     };
-    let marks = lent.closed();
-    faces(lent.k, lent.h, &lent.normals, &lent.offsets, &marks)
+    lent.faces()
         .iter()
         .map(|face| {
             let opened = boxes.iter().filter(|bx| open(slice::from_ref(face), bx));

@@ -33,13 +33,13 @@ pub fn check(lent: &Lent) -> u32 {
     let expected = second::check(lent.k, lent.n, &lent.points, &lent.order);
     assert_eq!(answer, expected, "check of {lent:?}");
     same_lent("check", lent, &ours, lent);
-    let other = lent.with_other_marks();
+    let other = lent.with_other_behind();
     let again = raw::check(lent.k, lent.n, &other.points, &other.order);
     assert_eq!(again, answer, "check by what is behind place n of {lent:?}");
     answer
 }
 
-/// Compares list, also with other numbers behind place n: the answer, and the list buffer afterwards.
+/// Compares list, also with the calls that must be answered alike: the answer, and the list buffer afterwards.
 pub fn list(lent: &Lent) -> (raw::Listing, Vec<u32>) {
     let mut theirs = lent.clone();
     let expected = second::list(
@@ -50,7 +50,7 @@ pub fn list(lent: &Lent) -> (raw::Listing, Vec<u32>) {
         &lent.order,
         &lent.normals,
         &lent.offsets,
-        &lent.closed(),
+        &lent.marks,
         &mut theirs.list,
     );
     let (answer, ours) = listed(lent);
@@ -64,7 +64,9 @@ pub fn list(lent: &Lent) -> (raw::Listing, Vec<u32>) {
     assert_eq!(numbers, theirs_numbers, "list of {lent:?}");
     same_lent("list", lent, &ours, &theirs);
     kept("list", lent, answer.code, &lent.list, &ours.list);
-    same_behind(lent, answer, &ours);
+    for (why, other) in lent.alike() {
+        listed_alike(why, &other, answer, &ours);
+    }
     if answer.code == 0 {
         bounds::hold(lent, answer.visits);
     }
@@ -74,32 +76,43 @@ pub fn list(lent: &Lent) -> (raw::Listing, Vec<u32>) {
 /// Calls the library's list: the answer, and all that was lent afterwards.
 fn listed(lent: &Lent) -> (raw::Listing, Lent) {
     let mut ours = lent.clone();
-    let answer = raw::list(
-        lent.k,
-        lent.n,
-        lent.h,
-        &ours.points,
-        &ours.order,
-        &ours.normals,
-        &ours.offsets,
-        &mut ours.list,
-    );
+    let answer = lend_marks(lent, |marks| {
+        raw::list(
+            lent.k,
+            lent.n,
+            lent.h,
+            &ours.points,
+            &ours.order,
+            &ours.normals,
+            &ours.offsets,
+            marks,
+            &mut ours.list,
+        )
+    });
     (answer, ours)
 }
 
-/// Asks that list answers the same whatever stands behind place n, or in the list buffer before.
-fn same_behind(lent: &Lent, answer: raw::Listing, ours: &Lent) {
-    let other = lent.with_other_marks();
-    let (again, after) = listed(&other);
-    assert_eq!(again, answer, "list by what is behind place n of {lent:?}");
-    kept("list", lent, again.code, &other.list, &after.list);
+/// Asks that the library's list answers another call with what it answered, and with the same list.
+fn listed_alike(why: &str, other: &Lent, answer: raw::Listing, ours: &Lent) {
+    let (again, after) = listed(other);
+    assert_eq!(again, answer, "list {why} of {ours:?}");
+    kept("list", other, again.code, &other.list, &after.list);
     if answer.code == 0 {
-        let (first, second) = (&ours.list[..lent.n], &after.list[..lent.n]);
-        same("list by what is behind place n", lent, first, second);
+        let (first, second) = (&ours.list[..ours.n], &after.list[..ours.n]);
+        same(&format!("list {why}"), other, first, second);
     }
 }
 
-/// Compares screen, also with other numbers behind place n, and holds it to what list answers.
+/// Makes a call of the library with the marks, right behind which other bytes stand, and asks that it leaves both as they were.
+fn lend_marks<A>(lent: &Lent, call: impl FnOnce(&[u8]) -> A) -> A {
+    let before = [&lent.marks[..], &lent.beyond].concat();
+    let bytes = before.clone();
+    let answer = call(&bytes[..lent.marks.len()]);
+    same("marks", lent, &bytes, &before);
+    answer
+}
+
+/// Compares screen, also with the calls that must be answered alike, and holds it to what list answers.
 pub fn screen(lent: &Lent) -> raw::Screening {
     let ours = lent.clone();
     let answer = screened(&ours);
@@ -111,7 +124,7 @@ pub fn screen(lent: &Lent) -> raw::Screening {
         &lent.order,
         &lent.normals,
         &lent.offsets,
-        &lent.closed(),
+        &lent.marks,
     );
     let numbers = (answer.code, answer.found, answer.number, answer.visits);
     let theirs_numbers = (
@@ -122,11 +135,9 @@ pub fn screen(lent: &Lent) -> raw::Screening {
     );
     assert_eq!(numbers, theirs_numbers, "screen of {lent:?}");
     same_lent("screen", lent, &ours, lent);
-    let again = screened(&lent.with_other_marks());
-    assert_eq!(
-        again, answer,
-        "screen by what is behind place n of {lent:?}"
-    );
+    for (why, other) in lent.alike() {
+        assert_eq!(screened(&other), answer, "screen {why} of {lent:?}");
+    }
     first_of_list(lent, answer);
     if answer.code == 0 {
         bounds::hold(lent, answer.visits);
@@ -136,15 +147,18 @@ pub fn screen(lent: &Lent) -> raw::Screening {
 
 /// Calls the library's screen.
 fn screened(lent: &Lent) -> raw::Screening {
-    raw::screen(
-        lent.k,
-        lent.n,
-        lent.h,
-        &lent.points,
-        &lent.order,
-        &lent.normals,
-        &lent.offsets,
-    )
+    lend_marks(lent, |marks| {
+        raw::screen(
+            lent.k,
+            lent.n,
+            lent.h,
+            &lent.points,
+            &lent.order,
+            &lent.normals,
+            &lent.offsets,
+            marks,
+        )
+    })
 }
 
 /// Asks that screen answers by the list call with room in its buffer: the same refusal, else the first entry of its inside list and no
@@ -170,19 +184,17 @@ fn first_of_list(lent: &Lent, answer: raw::Screening) {
     }
 }
 
-/// Compares the one-point test.
+/// Compares the one-point test, also with the calls that must be answered alike.
 pub fn place(lent: &Lent) -> raw::Placing {
     let ours = lent.clone();
-    let (normals, offsets) = (&ours.normals, &ours.offsets);
-    let answer = raw::place(lent.k, lent.h, &ours.point, normals, offsets);
-    let (normals, offsets) = (&lent.normals, &lent.offsets);
+    let answer = placed(&ours);
     let expected = second::place(
         lent.k,
         lent.h,
         &lent.point,
-        normals,
-        offsets,
-        &lent.closed(),
+        &lent.normals,
+        &lent.offsets,
+        &lent.marks,
     );
     let numbers = (answer.code, answer.inside);
     assert_eq!(
@@ -191,7 +203,18 @@ pub fn place(lent: &Lent) -> raw::Placing {
         "place of {lent:?}"
     );
     same_lent("place", lent, &ours, lent);
+    for (why, other) in lent.alike() {
+        assert_eq!(placed(&other), answer, "place {why} of {lent:?}");
+    }
     answer
+}
+
+/// Calls the library's one-point test.
+fn placed(lent: &Lent) -> raw::Placing {
+    let (normals, offsets) = (&lent.normals, &lent.offsets);
+    lend_marks(lent, |marks| {
+        raw::place(lent.k, lent.h, &lent.point, normals, offsets, marks)
+    })
 }
 
 /// Asks that the two calls left all that was lent alike.

@@ -1,7 +1,8 @@
 //! Regions of every kind that makes a difference.
 
 use crate::chance::Chance;
-use second::region::{sum_of_products, Face, CLOSED};
+use crate::lent::MOST_OFFSET;
+use second::region::{sum_of_products, Face, CLOSED, OPEN};
 
 /// The kinds of faces.
 #[derive(Clone, Copy, Debug, PartialEq, Eq)]
@@ -91,8 +92,8 @@ fn fresh(chance: &mut Chance, kind: Kind, k: usize, points: &[i32]) -> Face {
     };
     let near = through(&normal, &point(chance, k, points)) + chance.one_of(&[0, 0, 0, -1, 1, 7]);
     let offset = match kind {
-        Kind::Zero => chance.one_of(&[-8_589_934_592, -1, 0, 0, 1, 8_589_934_592]),
-        Kind::Extreme => chance.one_of(&[near, near, -8_589_934_592, 8_589_934_592]),
+        Kind::Zero => chance.one_of(&[-MOST_OFFSET, -1, 0, 0, 1, MOST_OFFSET]),
+        Kind::Extreme => chance.one_of(&[near, near, -MOST_OFFSET, MOST_OFFSET]),
         _ => near,
     };
     Face {
@@ -104,13 +105,44 @@ fn fresh(chance: &mut Chance, kind: Kind, k: usize, points: &[i32]) -> Face {
 
 /// A face turned round: what was above is below, but for a strip that both or neither has.
 fn against(chance: &mut Chance, face: &Face) -> Face {
-    let offset = (-face.offset + chance.between(-2, 2)).clamp(-8_589_934_592, 8_589_934_592);
-    let normal = face.normal.iter().map(|component| -component).collect();
+    let offset = -face.offset + chance.between(-2, 2);
     Face {
-        normal,
-        offset,
+        offset: offset.clamp(-MOST_OFFSET, MOST_OFFSET),
         mark: CLOSED,
+        ..mirror(face)
     }
+}
+
+/// The mirror of a face: what is above the one is below the other, and each point is above one of them.
+pub fn mirror(face: &Face) -> Face {
+    Face {
+        normal: face.normal.iter().map(|component| -component).collect(),
+        offset: -face.offset,
+        mark: if face.mark == OPEN { CLOSED } else { OPEN },
+    }
+}
+
+/// One face of any kind with either mark, more often than not exactly through one of the points.
+pub fn marked(chance: &mut Chance, k: usize, points: &[i32]) -> Face {
+    let kind = chance.one_of(&ANY);
+    let face = fresh(chance, kind, k, points);
+    let exact = through(&face.normal, &point(chance, k, points));
+    Face {
+        offset: chance.one_of(&[exact, face.offset]),
+        mark: chance.one_of(&[CLOSED, OPEN]),
+        ..face
+    }
+}
+
+/// Whether a point lies exactly on a face.
+pub fn lies_on(face: &Face, point: &[i32]) -> bool {
+    face.offset == through(&face.normal, point)
+}
+
+/// Marks of `h` faces: all closed, all open, or each of them either.
+pub fn marks(chance: &mut Chance, h: usize) -> Vec<u8> {
+    let some = chance.one_of(&[&[CLOSED][..], &[OPEN], &[CLOSED, OPEN]]);
+    (0..h).map(|_| chance.one_of(some)).collect()
 }
 
 /// Components from `-most` to `most`.

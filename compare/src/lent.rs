@@ -1,7 +1,11 @@
 //! What is lent to a call.
 
 use crate::chance::Chance;
+use second::region::{Face, CLOSED, OPEN};
 use std::fmt;
+
+/// The greatest offset.
+pub const MOST_OFFSET: i64 = 8_589_934_592;
 
 /// The arguments of all calls: build and check take the first part, the screen all but the list buffer, the one-point test the point.
 #[derive(Clone, PartialEq, Eq)]
@@ -13,16 +17,14 @@ pub struct Lent {
     pub order: Vec<u32>,
     pub normals: Vec<i32>,
     pub offsets: Vec<i64>,
+    pub marks: Vec<u8>,
     pub list: Vec<u32>,
     pub point: Vec<i32>,
+    /// What stands in memory directly behind the marks.
+    pub beyond: [u8; 4],
 }
 
 impl Lent {
-    /// The second program's mark of each face: all are closed. More than 64 are refused before a mark is looked at.
-    pub fn closed(&self) -> Vec<u8> {
-        vec![0; self.h.min(64)]
-    }
-
     /// These points and no faces, with buffers that hold anything and have some places behind place n.
     pub fn new(chance: &mut Chance, k: usize, points: Vec<i32>) -> Lent {
         let n = points.len() / k;
@@ -40,9 +42,21 @@ impl Lent {
             order,
             normals: Vec::new(),
             offsets: Vec::new(),
+            marks: Vec::new(),
             list,
             point,
+            beyond: [OPEN, CLOSED, OPEN, CLOSED],
         }
+    }
+
+    /// The point of this number.
+    pub fn point_of(&self, number: u32) -> &[i32] {
+        second::shelf::point(self.k, &self.points, number)
+    }
+
+    /// The faces of an accepted call.
+    pub fn faces(&self) -> Vec<Face> {
+        second::region::faces(self.k, self.h, &self.normals, &self.offsets, &self.marks)
     }
 
     /// The same with another order in the first places, and what stands behind it kept.
@@ -52,25 +66,74 @@ impl Lent {
         changed
     }
 
-    /// The same with the faces of a region.
+    /// The same with the faces of a region, all closed.
     pub fn with_faces(&self, normals: Vec<i32>, offsets: Vec<i64>) -> Lent {
         Lent {
             h: offsets.len(),
+            marks: vec![CLOSED; offsets.len()],
             normals,
             offsets,
             ..self.clone()
         }
     }
 
-    /// The same with other numbers behind place n of both buffers, and other first contents of the list
-    /// buffer.
-    pub fn with_other_marks(&self) -> Lent {
+    /// The same with these marks.
+    pub fn with_marks(&self, marks: Vec<u8>) -> Lent {
+        Lent {
+            marks,
+            ..self.clone()
+        }
+    }
+
+    /// The same with the point of this number for the one-point test.
+    pub fn with_point(&self, number: u32) -> Lent {
+        Lent {
+            point: self.point_of(number).to_vec(),
+            ..self.clone()
+        }
+    }
+
+    /// The same with one more face.
+    pub fn with_face(&self, face: &Face) -> Lent {
+        let mut changed = self.clone();
+        changed.h += 1;
+        changed.normals.extend(&face.normal);
+        changed.offsets.push(face.offset);
+        changed.marks.push(face.mark);
+        changed
+    }
+
+    /// The same with other numbers behind place n of both buffers and behind the marks, and other first
+    /// contents of the list buffer.
+    pub fn with_other_behind(&self) -> Lent {
         let mut changed = self.clone();
         let behind = changed.order.iter_mut().skip(self.n);
-        for mark in behind.chain(&mut changed.list) {
-            *mark = mark.wrapping_mul(5).wrapping_add(7);
+        for number in behind.chain(&mut changed.list) {
+            *number = number.wrapping_mul(5).wrapping_add(7);
         }
+        changed.beyond = [7, 255, 2, 128];
         changed
+    }
+
+    /// The same region with closed faces alone, where one is open and the offsets leave room: a sum is strictly greater than m
+    /// exactly where it is at least m + 1.
+    fn with_open_as_closed(&self) -> Option<Lent> {
+        let mut changed = self.clone();
+        let mut moved = false;
+        for (mark, m) in changed.marks.iter_mut().zip(&mut changed.offsets) {
+            if *mark == OPEN && (-MOST_OFFSET..MOST_OFFSET).contains(m) {
+                (*mark, *m, moved) = (CLOSED, *m + 1, true);
+            }
+        }
+        moved.then_some(changed)
+    }
+
+    /// The calls that must be answered as this one, and in what they differ from it.
+    pub fn alike(&self) -> Vec<(&'static str, Lent)> {
+        let behind = ("by what is behind", self.with_other_behind());
+        let closed = self.with_open_as_closed();
+        let closed = closed.map(|other| ("by closed faces in place of open ones", other));
+        [behind].into_iter().chain(closed).collect()
     }
 }
 
@@ -87,9 +150,10 @@ impl fmt::Debug for Lent {
             return Ok(());
         }
         let buffers = (&self.points, &self.order, &self.list);
-        let faces = (&self.normals, &self.offsets);
+        let faces = (&self.normals, &self.offsets, &self.marks);
         write!(out, ", points {:?}, order {:?}", buffers.0, buffers.1)?;
         write!(out, ", normals {:?}, offsets {:?}", faces.0, faces.1)?;
+        write!(out, ", marks {:?}", faces.2)?;
         write!(out, ", list {:?}, point {:?}", buffers.2, self.point)
     }
 }

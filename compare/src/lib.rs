@@ -1,5 +1,6 @@
 //! Compares every call of the library with the second program.
 
+pub mod agree;
 pub mod bounds;
 pub mod calls;
 pub mod cases;
@@ -8,4 +9,5 @@ pub mod damage;
 pub mod faces;
 pub mod lent;
 pub mod seen;
+pub mod shelves;
 pub mod stock;

@@ -1,11 +1,12 @@
 //! The square bound is attained: on a shelf of 2 to the power H less 1 points, a face on the last dimension that
-//! cuts the root box is visited exactly S times.
+//! cuts the root box is visited exactly S times, be it closed or open.
 
 use compare::bounds::Nearness;
 use compare::calls;
 use compare::cases;
 use compare::lent::Lent;
 use compare::stock::Stock;
+use second::region::OPEN;
 
 /// Cuts shelves of each such size, the full one among them.
 #[test]
@@ -21,11 +22,14 @@ fn exactly_s() {
         let mut normal = vec![0; k];
         normal[k - 1] = 1;
         let middle = chance.between(-32_767, 32_767);
-        let call = shelf.with_faces(normal, vec![middle]);
-        let visits = calls::list(&call).0.visits;
-        nearness.look(&call, visits);
-        if n > 1 {
-            assert_eq!(u64::from(visits), second::s(n, k), "{call:?}");
+        let closed = shelf.with_faces(normal.clone(), vec![middle]);
+        let open = shelf.with_faces(normal, vec![middle - 1]); // above it are the same points
+        for call in [closed, open.with_marks(vec![OPEN])] {
+            let visits = calls::list(&call).0.visits;
+            nearness.look(&call, visits);
+            if n > 1 {
+                assert_eq!(u64::from(visits), second::s(n, k), "{call:?}");
+            }
         }
     });
     println!("S attained: {nearness}");

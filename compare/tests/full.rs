@@ -8,6 +8,7 @@ use compare::faces;
 use compare::lent::Lent;
 use compare::stock::Stock;
 use hornherder::raw;
+use second::region::{CLOSED, OPEN};
 use std::thread;
 
 const N: usize = 65_535;
@@ -32,6 +33,9 @@ fn full_shelves() {
         let mut slots = shelf.order[..N].to_vec();
         make(chance, &mut slots);
         calls::check(&shelf.with_order(&slots));
+        let marked = call.with_marks(faces::marks(chance, h));
+        nearness.look(&marked, calls::list(&marked).0.visits);
+        assert_eq!(calls::screen(&marked).code, 0);
     });
     println!("full shelves: {nearness}");
 }
@@ -43,6 +47,22 @@ fn empty_on_a_plane(k: usize) -> (Vec<i32>, Vec<i64>) {
     ([up, down].concat().repeat(16), [1, 0].repeat(16))
 }
 
+/// Makes the deepest calls on a shelf of this dimension that take a region, with faces of these marks.
+fn deepest_regions(k: usize, points: &[i32], order: &[u32], marks: &[u8; 32]) {
+    let mut list = vec![0; N];
+    let normals: Vec<i32> = (0..32 * k).map(|i| i as i32 % 7 - 3).collect();
+    let m = [-30_000; 32];
+    let answer = raw::list(k, N, 32, points, order, &normals, &m, marks, &mut list);
+    assert_eq!(answer.code, 0);
+    assert!(answer.visits > 0);
+    let answer = raw::place(k, 32, &points[..k], &normals, &[0; 32], marks);
+    assert_eq!(answer.code, 0);
+    let (normals, offsets) = empty_on_a_plane(k);
+    let answer = raw::screen(k, N, 32, points, order, &normals, &offsets, marks);
+    assert_eq!((answer.code, answer.found), (0, 0));
+    assert!(answer.visits > 0);
+}
+
 /// The deepest calls there are need no more stack than the header says.
 #[test]
 fn stack() {
@@ -51,27 +71,12 @@ fn stack() {
             let points: Vec<i32> = (0..k * N)
                 .map(|i| (i * 7_919 % 65_536) as i32 - 32_768)
                 .collect();
-            let (mut order, mut list) = (vec![0; N], vec![0; N]);
-            let normals: Vec<i32> = (0..32 * k).map(|i| i as i32 % 7 - 3).collect();
+            let mut order = vec![0; N];
             assert_eq!(raw::build(k, N, &points, &mut order), 0);
             assert_eq!(raw::check(k, N, &points, &order), 0);
-            let answer = raw::list(
-                k,
-                N,
-                32,
-                &points,
-                &order,
-                &normals,
-                &[-30_000; 32],
-                &mut list,
-            );
-            assert_eq!(answer.code, 0);
-            assert!(answer.visits > 0);
-            assert_eq!(raw::place(k, 32, &points[..k], &normals, &[0; 32]).code, 0);
-            let (normals, offsets) = empty_on_a_plane(k);
-            let answer = raw::screen(k, N, 32, &points, &order, &normals, &offsets);
-            assert_eq!((answer.code, answer.found), (0, 0));
-            assert!(answer.visits > 0);
+            for mark in [CLOSED, OPEN] {
+                deepest_regions(k, &points, &order, &[mark; 32]);
+            }
         }
     };
     let small = thread::Builder::new().stack_size(raw::STACK_BYTES);

@@ -3,10 +3,8 @@
 use compare::calls;
 use compare::cases;
 use compare::chance::Chance;
-use compare::lent::{shorten, Lent};
+use compare::lent::{shorten, Lent, MOST_OFFSET as M};
 use compare::stock::Stock;
-
-const M: i64 = 8_589_934_592;
 
 /// A right call of `n` points and `h` faces, whose list buffer and order have exactly n places.
 fn right(chance: &mut Chance, k: usize, n: usize, h: usize) -> Lent {
@@ -67,7 +65,9 @@ fn most_points() {
 fn most_faces() {
     let mut chance = Chance::new(cases::SEED);
     for k in 1..=4 {
-        answers(&right(&mut chance, k, 9, 0), 0, 0, 0, 0);
+        let none = right(&mut chance, k, 9, 0);
+        answers(&none, 0, 0, 0, 0);
+        answers(&none.with_marks(vec![0]), 0, 0, 11, 11);
         answers(&right(&mut chance, k, 9, 32), 0, 0, 0, 0);
         answers(&right(&mut chance, k, 9, 33), 0, 0, 6, 6);
     }
@@ -97,6 +97,9 @@ fn lengths() {
         length(&right, |lent| shorten(&mut lent.normals), [0, 0, 7, 7]);
         length(&right, |lent| lent.offsets.push(0), [0, 0, 7, 7]);
         length(&right, |lent| shorten(&mut lent.offsets), [0, 0, 7, 7]);
+        length(&right, |lent| lent.marks.push(0), [0, 0, 11, 11]);
+        length(&right, |lent| shorten(&mut lent.marks), [0, 0, 11, 11]);
+        length(&right, |lent| lent.marks.clear(), [0, 0, 11, 11]);
     }
 }
 
@@ -136,6 +139,23 @@ fn faces() {
             for (number, code) in [(-M, 0), (M, 0), (-M - 1, 8), (M + 1, 8)] {
                 let mut lent = right.clone();
                 lent.offsets[place] = number;
+                answers(&lent, 0, 0, code, code);
+            }
+        }
+    }
+}
+
+/// The marks 0 and 1 pass and all greater ones do not, wherever they stand.
+#[test]
+fn marks() {
+    let mut chance = Chance::new(cases::SEED);
+    for k in 1..=4 {
+        let right = right(&mut chance, k, 5, 3);
+        for place in 0..3 {
+            for mark in 0..=u8::MAX {
+                let mut lent = right.clone();
+                lent.marks[place] = mark;
+                let code = if mark < 2 { 0 } else { 11 };
                 answers(&lent, 0, 0, code, code);
             }
         }

@@ -1,12 +1,13 @@
-//! Random shelves of 0 to 2,000 points, with points and regions of every kind.
+//! Random shelves with points and regions of every kind, whose faces are all closed.
 
+use compare::agree;
 use compare::bounds::Nearness;
 use compare::calls;
 use compare::cases;
 use compare::chance::Chance;
 use compare::damage;
-use compare::faces;
 use compare::lent::Lent;
+use compare::shelves;
 use compare::stock::Stock;
 
 /// How many shelves there are of each kind of points.
@@ -16,11 +17,7 @@ const SHELVES: usize = 600;
 fn shelves(name: &'static str, stock: Stock) {
     let mut nearness = Nearness::default();
     cases::make(name, SHELVES, |chance, case| {
-        let k = 1 + case % 4;
-        let size = chance.one_of(&[5, 50, 500, 2_000]);
-        let n = chance.below(size + 1);
-        let points = stock.points(chance, k, n);
-        let shelf = calls::shelf(&Lent::new(chance, k, points));
+        let shelf = shelves::of(chance, stock, 1 + case % 4);
         for _ in 0..3 {
             one_region(chance, &shelf, &mut nearness);
         }
@@ -31,25 +28,11 @@ fn shelves(name: &'static str, stock: Stock) {
 
 /// Compares list and the one-point test on one region, and holds the visits against their bounds.
 fn one_region(chance: &mut Chance, shelf: &Lent, nearness: &mut Nearness) {
-    let most = chance.one_of(&[0, 1, 1, 2, 8, 32]);
-    let h = chance.below(most + 1);
-    let (normals, offsets) = faces::region(chance, shelf.k, &shelf.points, h);
-    let call = shelf.with_faces(normals, offsets);
+    let call = shelves::region(chance, shelf);
     let (answer, list) = calls::list(&call);
     assert_eq!(answer.code, 0);
     nearness.look(&call, answer.visits);
-    let list = &list[..call.n];
-    let mut numbers = list.to_vec();
-    numbers.sort_unstable();
-    assert!(numbers.iter().copied().eq(0..call.n as u32));
-    for _ in 0..3.min(call.n) {
-        let place = chance.below(call.n);
-        let number = list[place] as usize;
-        let mut one = call.clone();
-        one.point = call.points[number * call.k..(number + 1) * call.k].to_vec();
-        let inside = u32::from(place < answer.inside as usize);
-        assert_eq!(calls::place(&one).inside, inside);
-    }
+    agree::hold(chance, &call, answer.inside, &list);
 }
 
 /// Compares check and list on an order that is damaged in some way.

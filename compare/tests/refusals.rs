@@ -6,6 +6,7 @@ use compare::chance::Chance;
 use compare::faces;
 use compare::lent::{shorten, Lent};
 use compare::seen::Seen;
+use second::region::{CLOSED, OPEN};
 
 /// The calls, as parts of a sum.
 const BUILD: u8 = 1;
@@ -17,11 +18,20 @@ const SHELF: u8 = BUILD | CHECK | LIST | SCREEN;
 const REGION: u8 = LIST | PLACE | SCREEN;
 const ORDER: u8 = CHECK | LIST | SCREEN;
 
+/// Each call: its name, its part of the sum, and the numbers that it may refuse with, in the order of its tests.
+const CALLS: [(&str, u8, &[u32]); 5] = [
+    ("build", BUILD, &[1, 2, 3, 4, 5]),
+    ("check", CHECK, &[1, 2, 3, 4, 5, 9]),
+    ("list", LIST, &[1, 2, 3, 4, 5, 6, 7, 8, 11, 9]),
+    ("place", PLACE, &[1, 3, 5, 6, 7, 8, 11]),
+    ("screen", SCREEN, &[1, 2, 3, 4, 5, 6, 7, 8, 11, 9]),
+];
+
 /// A fault: the number that it is refused with, the calls that refuse it, and how it is made.
 type Fault = (u32, u8, fn(&mut Lent));
 
 /// Every fault.
-const FAULTS: [Fault; 33] = [
+const FAULTS: [Fault; 39] = [
     (1, SHELF | PLACE, |lent| lent.k = 0),
     (1, SHELF | PLACE, |lent| lent.k = 5),
     (1, SHELF | PLACE, |lent| lent.k = usize::MAX),
@@ -51,6 +61,12 @@ const FAULTS: [Fault; 33] = [
     (8, REGION, |lent| last(&mut lent.normals, 32_768)),
     (8, REGION, |lent| first(&mut lent.offsets, 8_589_934_593)),
     (8, REGION, |lent| last(&mut lent.offsets, i64::MIN)),
+    (11, REGION, |lent| lent.marks.push(0)),
+    (11, REGION, |lent| shorten(&mut lent.marks)),
+    (11, REGION, |lent| lent.marks.clear()),
+    (11, REGION, |lent| first(&mut lent.marks, 2)),
+    (11, REGION, |lent| last(&mut lent.marks, 2)),
+    (11, REGION, |lent| last(&mut lent.marks, 255)),
     (9, ORDER, |lent| lent.order.reverse()),
     (9, ORDER, |lent| first(&mut lent.order, 3)),
     (9, ORDER, |lent| first(&mut lent.order, u32::MAX)),
@@ -74,80 +90,94 @@ fn last<T>(places: &mut [T], number: T) {
     }
 }
 
-/// A right call: three points, two faces, and no place behind place n.
-fn right(chance: &mut Chance, k: usize) -> Lent {
+/// A right call: three points, two faces, and no place behind place n. Once both faces are closed, once the first is open.
+fn right(chance: &mut Chance, k: usize) -> [Lent; 2] {
     let points = (0..3 * k).map(|i| (i * 7 % 5) as i32).collect();
     let mut lent = Lent::new(chance, k, points);
     lent.order.truncate(3);
     lent.list.truncate(3);
     let (normals, offsets) = faces::region(chance, k, &lent.points, 2);
-    calls::shelf(&lent).with_faces(normals, offsets)
+    let closed = calls::shelf(&lent).with_faces(normals, offsets);
+    let marked = closed.with_marks(vec![OPEN, CLOSED]);
+    [closed, marked]
 }
 
-/// The lowest number that one of these calls refuses faults with: 0 where it refuses none, nothing where two
+/// The number that a call refuses faults with, the first in the order of its tests: 0 where it refuses none, nothing where two
 /// faults have that number and may undo each other.
-fn lowest(faults: &[Fault], call: u8) -> Option<u32> {
+fn first_in_order(faults: &[Fault], call: u8, tests: &[u32]) -> Option<u32> {
     let concerned = faults.iter().filter(|(_, calls, _)| calls & call != 0);
-    let mut numbers: Vec<u32> = concerned.map(|(number, _, _)| *number).collect();
-    numbers.sort_unstable();
-    match numbers[..] {
-        [] => Some(0),
-        [one, another, ..] if one == another => None,
-        [one, ..] => Some(one),
+    let numbers: Vec<u32> = concerned.map(|(number, _, _)| *number).collect();
+    let times = |number: &u32| numbers.iter().filter(|held| *held == number).count();
+    match tests.iter().find(|number| times(number) > 0) {
+        None => Some(0),
+        Some(number) => (times(number) == 1).then_some(*number),
     }
 }
 
-/// Compares all calls on a right call with these faults, and the numbers with the lowest fault's. Gives what the screen
-/// answers.
-fn refused(right: &Lent, faults: &[Fault]) -> u32 {
+/// How often each call answers each of its numbers.
+fn answers() -> Seen<(&'static str, u32)> {
+    let numbers = |tests: &'static [u32]| [0].into_iter().chain(tests.iter().copied());
+    let of_call = |(name, _, tests)| numbers(tests).map(move |number| (name, number));
+    Seen::new(CALLS.into_iter().flat_map(of_call))
+}
+
+/// Compares all calls on a right call with these faults, and the numbers with that of the fault that is first in the call's
+/// order.
+fn refused(right: &Lent, faults: &[Fault], seen: &mut Seen<(&'static str, u32)>) {
     let mut lent = right.clone();
     for (_, _, make) in faults {
         make(&mut lent);
     }
-    let screen = calls::screen(&lent).code;
-    let answers = [
-        (BUILD, calls::build(&lent).0),
-        (CHECK, calls::check(&lent)),
-        (LIST, calls::list(&lent).0.code),
-        (PLACE, calls::place(&lent).code),
-        (SCREEN, screen),
-    ];
-    for (call, code) in answers {
-        if let Some(number) = lowest(faults, call) {
-            assert_eq!(code, number, "call {call} of {lent:?}");
+    for (name, call, tests) in CALLS {
+        let code = match call {
+            BUILD => calls::build(&lent).0,
+            CHECK => calls::check(&lent),
+            LIST => calls::list(&lent).0.code,
+            PLACE => calls::place(&lent).code,
+            _ => calls::screen(&lent).code,
+        };
+        if let Some(number) = first_in_order(faults, call, tests) {
+            assert_eq!(code, number, "{name} of {lent:?}");
         }
+        seen.count((name, code));
     }
-    screen
 }
 
 /// No fault, and each by itself.
 #[test]
 fn one_fault() {
-    let mut seen = Seen::new(0..=9);
+    let mut seen = answers();
     cases::make("one fault", 40, |chance, case| {
-        let right = right(chance, 1 + case % 4);
-        seen.count(refused(&right, &[]));
-        for fault in FAULTS {
-            seen.count(refused(&right, &[fault]));
+        for right in right(chance, 1 + case % 4) {
+            refused(&right, &[], &mut seen);
+            for fault in FAULTS {
+                refused(&right, &[fault], &mut seen);
+            }
         }
     });
-    seen.enough("one fault, of the screen");
+    seen.enough("one fault");
+}
+
+/// Compares all calls on a right call with every two and every three faults.
+fn two_or_three(right: &Lent, seen: &mut Seen<(&'static str, u32)>) {
+    for (a, first) in FAULTS.iter().enumerate() {
+        for (b, second) in FAULTS.iter().enumerate().skip(a + 1) {
+            refused(right, &[*first, *second], seen);
+            for third in &FAULTS[b + 1..] {
+                refused(right, &[*first, *second, *third], seen);
+            }
+        }
+    }
 }
 
 /// Every two and every three faults at once, in each dimension.
 #[test]
 fn two_or_three_faults() {
-    let mut seen = Seen::new(0..=9);
+    let mut seen = answers();
     cases::make("two or three faults", 4, |chance, case| {
-        let right = right(chance, 1 + case % 4);
-        for (a, first) in FAULTS.iter().enumerate() {
-            for (b, second) in FAULTS.iter().enumerate().skip(a + 1) {
-                seen.count(refused(&right, &[*first, *second]));
-                for third in &FAULTS[b + 1..] {
-                    seen.count(refused(&right, &[*first, *second, *third]));
-                }
-            }
+        for right in right(chance, 1 + case % 4) {
+            two_or_three(&right, &mut seen);
         }
     });
-    seen.enough("two or three faults, of the screen");
+    seen.enough("two or three faults");
 }

@@ -1,22 +1,19 @@
-//! The screen: shelves worked out by hand, and random ones of 0 to 2,000 points with points and regions of every kind.
+//! The screen: shelves worked out by hand, and random ones with points and regions of every kind.
 
 use compare::calls;
 use compare::cases;
 use compare::chance::Chance;
-use compare::faces;
 use compare::lent::Lent;
-use compare::seen::Seen;
+use compare::seen::{Case, Seen};
+use compare::shelves;
 use compare::stock::Stock;
 use hornherder::raw::Screening;
 
 /// How many shelves there are, as many of each kind of points.
 const SHELVES: usize = 600 * Stock::ALL.len();
 
-/// A case of an answer: its name, and whether an answer has it.
-type Case = (&'static str, fn(&Screening) -> bool);
-
 /// Every case.
-const CASES: [Case; 5] = [
+const CASES: [Case<Screening>; 5] = [
     ("found", |answer| answer.found == 1),
     ("found with no visit", |answer| {
         answer.found == 1 && answer.visits == 0
@@ -33,22 +30,13 @@ const CASES: [Case; 5] = [
 /// Compares the screen on random shelves, each with three regions, and asks that every case of the answer comes up.
 #[test]
 fn random_shelves() {
-    let mut seen = Seen::new(CASES.map(|(name, _)| name));
+    let mut seen = Seen::of(&CASES);
     cases::make("screens", SHELVES, |chance, case| {
-        let kinds = Stock::ALL.len();
-        let (stock, k) = (Stock::ALL[case % kinds], 1 + case / kinds % 4);
-        let size = chance.one_of(&[5, 50, 500, 2_000]);
-        let n = chance.below(size + 1);
-        let points = stock.points(chance, k, n);
-        let shelf = calls::shelf(&Lent::new(chance, k, points));
+        let shelf = shelves::in_turn(chance, case);
         for _ in 0..3 {
-            let most = chance.one_of(&[0, 1, 1, 2, 8, 32]);
-            let h = chance.below(most + 1);
-            let (normals, offsets) = faces::region(chance, k, &shelf.points, h);
-            let answer = calls::screen(&shelf.with_faces(normals, offsets));
+            let answer = calls::screen(&shelves::region(chance, &shelf));
             assert_eq!(answer.code, 0);
-            let has = CASES.iter().filter(|(_, has)| has(&answer));
-            has.for_each(|(name, _)| seen.count(name));
+            seen.look(&CASES, &answer);
         }
     });
     seen.enough("screens");

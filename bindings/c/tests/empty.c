@@ -18,22 +18,27 @@ static int finds_nothing(hornherder_screening answer, uint32_t code)
 int main(void)
 {
     const int32_t zero[HORNHERDER_MAX_DIMENSION] = {0, 0, 0, 0};
+    const int64_t offset = 0;
     size_t k;
     int right = 1;
     for (k = HORNHERDER_MIN_DIMENSION; k <= HORNHERDER_MAX_DIMENSION; k++) {
-        hornherder_placing inside = hornherder_place(k, 0, zero, k, NULL, 0, NULL, 0);
-        hornherder_placing none = hornherder_place(k, 0, NULL, 0, NULL, 0, NULL, 0);
+        hornherder_placing inside = hornherder_place(k, 0, zero, k, NULL, 0, NULL, 0, NULL, 0);
+        hornherder_placing none = hornherder_place(k, 0, NULL, 0, NULL, 0, NULL, 0, NULL, 0);
+        hornherder_placing unmarked = hornherder_place(k, 1, zero, k, zero, k, &offset, 1, NULL, 0);
         right &= hornherder_build(k, 0, NULL, 0, NULL, 0) == HORNHERDER_DONE;
         right &= hornherder_check(k, 0, NULL, 0, NULL, 0) == HORNHERDER_DONE;
-        right &= is(hornherder_list(k, 0, 0, NULL, 0, NULL, 0, NULL, 0, NULL, 0, NULL, 0), HORNHERDER_DONE);
-        right &= finds_nothing(hornherder_screen(k, 0, 0, NULL, 0, NULL, 0, NULL, 0, NULL, 0), HORNHERDER_DONE);
+        right &= is(hornherder_list(k, 0, 0, NULL, 0, NULL, 0, NULL, 0, NULL, 0, NULL, 0, NULL, 0), HORNHERDER_DONE);
+        right &= finds_nothing(hornherder_screen(k, 0, 0, NULL, 0, NULL, 0, NULL, 0, NULL, 0, NULL, 0), HORNHERDER_DONE);
         right &= inside.code == HORNHERDER_DONE && inside.inside == 1;
         right &= none.code == HORNHERDER_POINTS_LENGTH && none.inside == 0;
         right &= hornherder_build(k, 1, zero, k, NULL, 0) == HORNHERDER_SHORT_BUFFER;
         right &= hornherder_check(k, 1, NULL, 0, NULL, 0) == HORNHERDER_POINTS_LENGTH;
-        right &= is(hornherder_list(k, 0, 1, NULL, 0, NULL, 0, NULL, 0, NULL, 0, NULL, 0), HORNHERDER_FACES_LENGTH);
-        right &= finds_nothing(hornherder_screen(k, 1, 0, zero, k, NULL, 0, NULL, 0, NULL, 0), HORNHERDER_SHORT_BUFFER);
-        right &= finds_nothing(hornherder_screen(k, 0, 1, NULL, 0, NULL, 0, NULL, 0, NULL, 0), HORNHERDER_FACES_LENGTH);
+        right &= is(hornherder_list(k, 0, 1, NULL, 0, NULL, 0, NULL, 0, NULL, 0, NULL, 0, NULL, 0), HORNHERDER_FACES_LENGTH);
+        right &= finds_nothing(hornherder_screen(k, 1, 0, zero, k, NULL, 0, NULL, 0, NULL, 0, NULL, 0), HORNHERDER_SHORT_BUFFER);
+        right &= finds_nothing(hornherder_screen(k, 0, 1, NULL, 0, NULL, 0, NULL, 0, NULL, 0, NULL, 0), HORNHERDER_FACES_LENGTH);
+        right &= is(hornherder_list(k, 0, 1, NULL, 0, NULL, 0, zero, k, &offset, 1, NULL, 0, NULL, 0), HORNHERDER_MARKS);
+        right &= finds_nothing(hornherder_screen(k, 0, 1, NULL, 0, NULL, 0, zero, k, &offset, 1, NULL, 0), HORNHERDER_MARKS);
+        right &= unmarked.code == HORNHERDER_MARKS && unmarked.inside == 0;
     }
     puts(right ? "right" : "wrong");
     return 0;

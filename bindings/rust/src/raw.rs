@@ -2,8 +2,9 @@
 //!
 //! Nothing is derived and nothing is tested here, not even whether the library is of this [`VERSION`], so
 //! every refusal can be met. The numbers that calls return are those of
-//! [`Refusal::number`](crate::Refusal::number), and 0 for done. A refused call changes no lent number, and
-//! every other number in its answer is 0.
+//! [`Refusal::number`](crate::Refusal::number), and 0 for done. Each call names its refusals in the order of
+//! its tests, and returns the first that holds. A refused call changes no lent number, and every other number
+//! in its answer is 0.
 //!
 //! ```
 //! use hornherder::raw;
@@ -15,19 +16,28 @@
 //! assert_eq!(raw::check(1, 2, &points, &[1, 0]), 9);
 //!
 //! let mut list = [0; 2];
-//! let answer = raw::list(1, 2, 1, &points, &order, &[1], &[5], &mut list);
+//! let closed = [raw::CLOSED_FACE];
+//! let answer = raw::list(1, 2, 1, &points, &order, &[1], &[5], &closed, &mut list);
 //! assert_eq!((answer.inside, answer.outside, answer.visits), (1, 1, 2));
-//! let answer = raw::screen(1, 2, 1, &points, &order, &[1], &[5]);
+//! let answer = raw::screen(1, 2, 1, &points, &order, &[1], &[5], &closed);
 //! assert_eq!((answer.found, answer.number, answer.visits), (1, 1, 2));
-//! assert_eq!(raw::place(5, 0, &[], &[], &[]).code, 1);
+//! assert_eq!(raw::place(1, 1, &[5], &[1], &[5], &closed).inside, 1);
+//! assert_eq!(raw::place(1, 1, &[5], &[1], &[5], &[raw::OPEN_FACE]).inside, 0);
+//! assert_eq!(raw::place(1, 1, &[5], &[1], &[5], &[]).code, 11); // a closed face has a mark too
 //! assert_eq!(raw::version(), raw::VERSION);
 //! ```
 
 /// The version of the calls and of the archive: the header's `HORNHERDER_VERSION`.
-pub const VERSION: u32 = 3;
+pub const VERSION: u32 = 4;
 
 /// The stack that is enough for any call, in bytes.
 pub const STACK_BYTES: usize = 32_768;
+
+/// The mark of a closed face: a point on it is above it.
+pub const CLOSED_FACE: u8 = 0;
+
+/// The mark of an open face: a point on it is not above it.
+pub const OPEN_FACE: u8 = 1;
 
 /// What [`list`] answers.
 #[must_use]
@@ -102,6 +112,8 @@ extern "C" {
         normals_len: usize,
         offsets: *const i64,
         offsets_len: usize,
+        marks: *const u8,
+        marks_len: usize,
         list: *mut u32,
         list_len: usize,
     ) -> Listing;
@@ -118,6 +130,8 @@ extern "C" {
         normals_len: usize,
         offsets: *const i64,
         offsets_len: usize,
+        marks: *const u8,
+        marks_len: usize,
     ) -> Screening;
 
     fn hornherder_place(
@@ -129,6 +143,8 @@ extern "C" {
         normals_len: usize,
         offsets: *const i64,
         offsets_len: usize,
+        marks: *const u8,
+        marks_len: usize,
     ) -> Placing;
 
     fn hornherder_version() -> u32;
@@ -153,8 +169,8 @@ pub fn build(k: usize, n: usize, points: &[i32], order: &mut [u32]) -> u32 {
     }
 }
 
-/// Says 0 exactly where the first `n` places of `order` are the shelf of the points. Refusals: 1 to 5
-/// and 9.
+/// Says 0 exactly where the first `n` places of `order` are the shelf of the points. Refusals: 1 to 5, then
+/// 9.
 #[must_use]
 pub fn check(k: usize, n: usize, points: &[i32], order: &[u32]) -> u32 {
     // SAFETY: as said above.
@@ -171,7 +187,7 @@ pub fn check(k: usize, n: usize, points: &[i32], order: &[u32]) -> u32 {
 }
 
 /// Writes the numbers inside from the front of `list`, and those outside from place `n - 1` backwards,
-/// both in shelf order. The order is checked first. Refusals: 1 to 9.
+/// both in shelf order. The order is checked first. Refusals: 1 to 8, then 11, then 9.
 #[allow(clippy::too_many_arguments)]
 pub fn list(
     k: usize,
@@ -181,6 +197,7 @@ pub fn list(
     order: &[u32],
     normals: &[i32],
     offsets: &[i64],
+    marks: &[u8],
     list: &mut [u32],
 ) -> Listing {
     // SAFETY: as said above.
@@ -197,6 +214,8 @@ pub fn list(
             normals.len(),
             offsets.as_ptr(),
             offsets.len(),
+            marks.as_ptr(),
+            marks.len(),
             list.as_mut_ptr(),
             list.len(),
         )
@@ -204,7 +223,8 @@ pub fn list(
 }
 
 /// Gives the first number inside, in shelf order, or says that there is none; it stops as soon as it has
-/// one. The order is checked first. Refusals: 1 to 9.
+/// one. The order is checked first. Refusals: 1 to 8, then 11, then 9.
+#[allow(clippy::too_many_arguments)]
 pub fn screen(
     k: usize,
     n: usize,
@@ -213,6 +233,7 @@ pub fn screen(
     order: &[u32],
     normals: &[i32],
     offsets: &[i64],
+    marks: &[u8],
 ) -> Screening {
     // SAFETY: as said above.
     unsafe {
@@ -228,12 +249,21 @@ pub fn screen(
             normals.len(),
             offsets.as_ptr(),
             offsets.len(),
+            marks.as_ptr(),
+            marks.len(),
         )
     }
 }
 
-/// Tests one point against a region. Refusals: 1, 3 and 5 to 8.
-pub fn place(k: usize, h: usize, point: &[i32], normals: &[i32], offsets: &[i64]) -> Placing {
+/// Tests one point against a region. Refusals: 1, 3, 5 to 8, then 11.
+pub fn place(
+    k: usize,
+    h: usize,
+    point: &[i32],
+    normals: &[i32],
+    offsets: &[i64],
+    marks: &[u8],
+) -> Placing {
     // SAFETY: as said above.
     unsafe {
         hornherder_place(
@@ -245,6 +275,8 @@ pub fn place(k: usize, h: usize, point: &[i32], normals: &[i32], offsets: &[i64]
             normals.len(),
             offsets.as_ptr(),
             offsets.len(),
+            marks.as_ptr(),
+            marks.len(),
         )
     }
 }

@@ -8,8 +8,8 @@ use std::sync::OnceLock;
 /// Makes the refusals of the library from one table: name, number, when it is given, and the likely cause.
 macro_rules! refusals {
     ($($name:ident = $number:literal, $given:literal, $likely:literal;)*) => {
-        /// Why a call was refused. Nothing was written; of several reasons the one with the lowest number
-        /// is given.
+        /// Why a call was refused. Nothing was written; of several reasons the one is given that comes first
+        /// in the order of the call's tests, which [`raw`] says for each call.
         ///
         /// ```
         /// use hornherder::{Refusal, Shelf};
@@ -76,6 +76,7 @@ refusals! {
     FacesLength = 7, "the normals are not k times h long, or the offsets not h", "a face too many in one of the two, or faces of another dimension";
     FaceRange = 8, "a component is not -32,767 to 32,767, or an offset not -8,589,934,592 to 8,589,934,592", "a normal scaled too far, or an offset in a component's place";
     NotTheTree = 9, "the first n slots are not the tree of these points", "the points changed, or the order is of another shelf: build again";
+    Marks = 11, "the marks are not h long, or a mark is not 0 or 1", "closed faces left without a mark, or marks never set";
 }
 
 impl Refusal {

@@ -127,6 +127,7 @@ impl<'s> Shelf<'s> {
             &self.order,
             region.normals(),
             region.offsets(),
+            region.marks(),
             buffer,
         );
         done(answer.code)?;
@@ -159,6 +160,7 @@ impl<'s> Shelf<'s> {
             &self.order,
             region.normals(),
             region.offsets(),
+            region.marks(),
         );
         done(answer.code)?;
         let found = (answer.found == 1).then_some(answer.number);

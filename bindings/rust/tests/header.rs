@@ -53,6 +53,8 @@ fn same_constants() {
         ("MAX_COMPONENT", i64::from(hornherder::MAX_COMPONENT)),
         ("MIN_OFFSET", -hornherder::MAX_OFFSET),
         ("MAX_OFFSET", hornherder::MAX_OFFSET),
+        ("CLOSED_FACE", i64::from(raw::CLOSED_FACE)),
+        ("OPEN_FACE", i64::from(raw::OPEN_FACE)),
         ("DONE", 0),
     ];
     for (name, value) in limits {

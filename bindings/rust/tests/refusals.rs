@@ -34,7 +34,7 @@ fn of_order() {
     assert_eq!(refused(&[3, 3], &[0, 2]), Refusal::NotTheTree);
 }
 
-/// Making a region meets 1, 6, 7 and 8.
+/// Making a region meets 1, 6, 7 and 8 ...
 #[test]
 fn of_region() {
     assert_eq!(Region::everywhere(0), Err(Refusal::Dimension));
@@ -50,6 +50,48 @@ fn of_region() {
     let offset = flat.clone().with_face(&[0, -32_767], -MAX_OFFSET - 1);
     assert_eq!(offset, Err(Refusal::FaceRange));
     assert!(flat.with_face(&[0, -32_767], -MAX_OFFSET).is_ok());
+}
+
+/// ... and 11: for a mark too few or too many, and for one that is not 0 or 1.
+#[test]
+fn of_marks() {
+    let marked = |marks: &[u8]| Region::with_marks(1, vec![1, -1], vec![3, -5], marks.to_vec());
+    for marks in [&[][..], &[0], &[0, 1, 0], &[2, 0], &[0, 2], &[1, 255]] {
+        assert_eq!(marked(marks), Err(Refusal::Marks), "{marks:?}");
+    }
+    for marks in [[0, 0], [0, 1], [1, 0], [1, 1]] {
+        assert_eq!(marked(&marks).unwrap().marks(), marks);
+    }
+    let unmarked = Region::with_marks(1, vec![], vec![], vec![0]);
+    assert_eq!(unmarked, Err(Refusal::Marks));
+    let full = Region::with_marks(1, vec![0; 32], vec![0; 32], vec![1; 32]).unwrap();
+    assert_eq!(full.with_open_face(&[0], 0), Err(Refusal::TooManyFaces));
+}
+
+/// 8 is tested before 11, and 11 before 9, in each call that has them.
+#[test]
+fn marks_in_order() {
+    let (points, wrong_order, right_order) = ([0, 10], [1, 0], [0, 1]);
+    for (component, mark, order, code) in [
+        (-32_768, 2, wrong_order, 8),
+        (1, 2, wrong_order, 11),
+        (1, 1, wrong_order, 9),
+        (1, 1, right_order, 0),
+    ] {
+        let (normals, marks) = ([component], [mark]);
+        let mut list = [70, 71];
+        let listing = raw::list(1, 2, 1, &points, &order, &normals, &[0], &marks, &mut list);
+        let screening = raw::screen(1, 2, 1, &points, &order, &normals, &[0], &marks);
+        assert_eq!((listing.code, screening.code), (code, code));
+        let placing = raw::place(1, 1, &[0], &normals, &[0], &marks);
+        assert_eq!(placing.code, if code == 9 { 0 } else { code });
+        if code != 0 {
+            assert_eq!(list, [70, 71]);
+            assert_eq!((listing.inside, listing.outside, listing.visits), (0, 0, 0));
+            let told = (screening.found, screening.number, screening.visits);
+            assert_eq!(told, (0, 0, 0));
+        }
+    }
 }
 
 /// Testing a point meets 3 and 5.
@@ -96,8 +138,9 @@ fn row(line: &str) -> Option<(u32, &str, &str)> {
 #[test]
 fn numbers_and_sentences() {
     let readme = include_str!("../../../README.md");
-    let rows: Vec<_> = readme.lines().filter_map(row).collect();
-    assert_eq!(rows.len(), Refusal::ALL.len() + 1, "10 is the program's");
+    let mut rows: Vec<_> = readme.lines().filter_map(row).collect();
+    rows.retain(|&(number, _, _)| number != 10); // the program's
+    assert_eq!(rows.len(), Refusal::ALL.len());
     for (&(number, given, likely), &refusal) in rows.iter().zip(Refusal::ALL) {
         assert_eq!(refusal.number(), number);
         assert_eq!(Refusal::from_number(number), Some(refusal));

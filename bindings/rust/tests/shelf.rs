@@ -114,9 +114,66 @@ fn faces_and_points() {
     assert_eq!((region.k(), region.h()), (2, 2));
     let faces: Vec<_> = region.faces().collect();
     assert_eq!(faces, [(&[1, 1][..], 7), (&[-1, 0][..], -6)]);
+    assert_eq!(region.marks(), [0, 0]);
     let inside = |point| region.contains(point).unwrap();
     let held: Vec<_> = A.chunks(2).map(inside).collect();
     assert_eq!(held, [false, false, true, false, true, false]);
+}
+
+/// A point on an open face is outside, for all three calls; a point beside the face is as before.
+#[test]
+fn on_an_open_face() {
+    let shelf = Shelf::build(2, &A[..]).unwrap();
+    let everywhere = || Region::everywhere(2).unwrap();
+    let half = everywhere().with_face(&[1, 1], 7).unwrap();
+    let open = half.clone().with_open_face(&[-1, 0], -6).unwrap();
+    assert_eq!(open.marks(), [0, 1]);
+    assert_ne!(open, two_faces());
+    assert_eq!(two_faces().contains(&[6, 6]), Ok(true));
+    assert_eq!(open.contains(&[6, 6]), Ok(false));
+    assert_eq!(open.contains(&[5, 6]), Ok(true));
+    let mut buffer = [0; 6];
+    let listing = shelf.list(&open, &mut buffer).unwrap();
+    assert_eq!(listing.inside(), [2]);
+    assert!(listing.outside().eq([1, 5, 0, 3, 4]));
+    let only_4 = everywhere().with_face(&[1, 0], 6).unwrap();
+    let only_4 = only_4.with_face(&[0, 1], 6).unwrap();
+    assert_eq!(shelf.screen(&only_4).unwrap().found(), Some(4));
+    let none = only_4.with_open_face(&[1, 0], 6).unwrap();
+    assert_eq!(shelf.screen(&none).unwrap().found(), None);
+}
+
+/// A box whose corner lies on an open face is not above it: a shelf that a closed face settles at once is
+/// open to the same face marked open.
+#[test]
+fn corner_on_an_open_face() {
+    let shelf = Shelf::build(1, vec![5, 6, 7]).unwrap();
+    let mut buffer = [0; 3];
+    let from_5 = Region::new(1, vec![1], vec![5]).unwrap();
+    assert_eq!(shelf.list(&from_5, &mut buffer).unwrap().visits(), 0);
+    let above_5 = Region::with_marks(1, vec![1], vec![5], vec![1]).unwrap();
+    let listing = shelf.list(&above_5, &mut buffer).unwrap();
+    assert_eq!(listing.inside(), [1, 2]);
+    assert_eq!(listing.visits(), 2);
+    let above_7 = Region::with_marks(1, vec![1], vec![7], vec![1]).unwrap();
+    let listing = shelf.list(&above_7, &mut buffer).unwrap();
+    assert_eq!((listing.inside().len(), listing.visits()), (0, 0));
+}
+
+/// Two bins side by side along a face, closed in the one and open in the other, hold every point once.
+#[test]
+fn side_by_side() {
+    let shelf = Shelf::build(2, &A[..]).unwrap();
+    let (mut some, mut others) = ([0; 6], [0; 6]);
+    for offset in -1..16 {
+        let closed = Region::everywhere(2).unwrap().with_face(&[1, 1], offset);
+        let open = Region::everywhere(2).unwrap();
+        let open = open.with_open_face(&[-1, -1], -offset);
+        let one = shelf.list(&closed.unwrap(), &mut some).unwrap();
+        let other = shelf.list(&open.unwrap(), &mut others).unwrap();
+        assert!(one.outside().eq(other.inside().iter().copied()));
+        assert!(other.outside().eq(one.inside().iter().copied()));
+    }
 }
 
 /// Many threads at once get the same answer.

@@ -10,3 +10,4 @@ pub mod ScreenOutcome
 pub mod ScreenPromises
 pub mod PlaceOutcome
 pub mod PlacePromises
+pub mod BinPromises

@@ -4,7 +4,7 @@ use mathlib.Core.Logic.{_≢_}
 use mathlib.Core.Bool.{true}
 use mathlib.Core.List.{List}
 use Prim.Native.Nat.{ℕ, _+_, _*_, _≤_, _<_}
-use lib.ListN.{length, take, drop}
+use lib.ListN.{length, take, drop, replicate}
 use lib.Dec.{ltb}
 use Rattle.whole.specs.IndexedTotal.{totalTo}
 use Rattle.terms.specs.declared.Listing.{Listing}
@@ -14,28 +14,26 @@ use Rattle.terms.specs.Tree.{eachOnce, shelfRun}
 use Rattle.terms.specs.Region.{region}
 use Rattle.terms.specs.Bound.{S, isSquare}
 use Rattle.terms.specs.ListCall.{listRefusals, listCode, listAnswer, ListedAs}
+use Rattle.terms.specs.Unmarked.{unmarkedListAnswer, unmarkedListAfter}
 use Rattle.theory.specs.FirstRefusal.{FirstHeld, if-refused}
-use Rattle.theory.specs.FirstRefusalIsLowest.{Lowest}
 use Rattle.theory.specs.InsideAndOutside.{shelf-lists-length, shelf-places-each}
+use Rattle.theory.specs.ClosedFaces.{closed-list-answer, closed-list-after}
 use Rattle.theory.specs.FaceLentAlone.{faceAlone}
 use Rattle.theory.specs.VisitsOfTheListCall.{list-visits-le-faces, list-visits-le-S}
-use Rattle.theory.specs.ListCall.{list-answer-code, list-first, list-lowest, list-passed, list-refused, list-front, list-later, list-answer-reads, list-after-reads}
+use Rattle.theory.specs.ListCall.{listed-code, list-first, list-passed, list-refused, list-front, list-later, list-answer-reads, list-after-reads}
 
 module _ (s : Stock) (o : Order) (f : Faces) (list : List ℕ) where
   module _ {a : Listing} {x : List ℕ} (e : ListedAs s o f list a x) where
     code : a .code ≡ listCode s o f list
-    code = ap (λ (r : Listing). r .code) (e .answered) ∙ list-answer-code s o f list
+    code = listed-code s o f list e
 
     -- Two outcomes that satisfy the contract are equal.
     pub list-once : {b : Listing} {y : List ℕ} → ListedAs s o f list b y → (a ≡ b) × (x ≡ y)
     list-once g = (e .answered ∙ sym (g .answered), e .written ∙ sym (g .written))
 
-    -- The number is the first refusal that holds in the order of testing, and 0 where none does; the numbers rise, so it is the lowest.
+    -- The number is the first refusal that holds in the order of testing, and 0 where none does.
     pub list-answers-the-first : FirstHeld (listRefusals s o f list) (a .code)
     list-answers-the-first = rw code (list-first s o f list)
-
-    pub list-answers-the-lowest : Lowest (listRefusals s o f list) (a .code)
-    list-answers-the-lowest = rw code (list-lowest s o f list)
 
     -- A refusal changes no lent number.
     pub list-refused-writes-nothing : a .code ≢ 0 → x ≡ list
@@ -47,6 +45,10 @@ module _ (s : Stock) (o : Order) (f : Faces) (list : List ℕ) where
     list-refused-says-no-more m =
         let n : listCode s o f list ≢ 0 = λ z. m (code ∙ z) in
         e .answered ∙ if-refused (listCode s o f list) _ _ n ∙ rw (← code) refl
+
+    -- "With all marks 0 every answer stays."
+    pub list-of-closed-faces : f .marks ≡ replicate (f .h) 0 → (a ≡ unmarkedListAnswer s o f list) × (x ≡ unmarkedListAfter s o f list)
+    list-of-closed-faces zeros = (e .answered ∙ closed-list-answer f zeros s o list, e .written ∙ closed-list-after f zeros s o list)
 
     module _ (done : a .code ≡ 0) where
       passed : listCode s o f list ≡ 0

@@ -29,7 +29,7 @@ module _ (k : ℕ) (point : List ℤ) (f : Faces) {c : ℕ} (first : First (plac
   unfolding placeAnswer
   place-refused m = rw (← place-coded) (sym (if-refused c _ _ m))
 
-  pub place-done : c ≡ 0 → {x : List ℤ} → PointAt k point 0 x → (t : Bool) → t ≡ inside (region k (facesOf (f .normals) (f .offsets))) (lone x)
+  pub place-done : c ≡ 0 → {x : List ℤ} → PointAt k point 0 x → (t : Bool) → t ≡ inside (region k (facesOf (f .normals) (f .offsets) (f .marks))) (lone x)
       → record { code = 0; inside = bit t } ≡ placeAnswer k point f
   unfolding placeAnswer
   place-done z w t e = rw (← place-coded, z, e, place-tested z .faced .offsets-size, inside-same-point (region k f) (w .same), lone-coord k point) refl

@@ -3,10 +3,13 @@ use mathlib.Core.Path.{_≡_, refl, sym, ap, _∙_}
 use mathlib.Core.Logic.{_≢_}
 use mathlib.Core.List.{List}
 use Prim.Native.Nat.{ℕ}
+use lib.ListN.{replicate}
 use lib.IntN.{ℤ}
 use Rattle.terms.specs.declared.Placing.{Placing}
 use Rattle.terms.specs.Lent.{Faces}
 use Rattle.terms.specs.PlaceCall.{placeRefusals, placeCode, placeAnswer}
+use Rattle.terms.specs.Unmarked.{unmarkedPlaceAnswer}
+use Rattle.theory.specs.ClosedFaces.{closed-place-answer}
 use Rattle.theory.specs.FirstRefusal.{FirstHeld, if-code, if-refused}
 use Rattle.theory.specs.FirstRefusalIsLowest.{Lowest}
 use Rattle.theory.specs.PlaceCall.{place-first, place-lowest}
@@ -34,3 +37,7 @@ module _ (k : ℕ) (point : List ℤ) (f : Faces) {a : Placing} (e : a ≡ place
   place-refused-says-no-more m =
       let n : placeCode k point f ≢ 0 = λ z. m (place-number ∙ z) in
       e ∙ if-refused (placeCode k point f) _ _ n ∙ rw (← place-number) refl
+
+  -- "With all marks 0 every answer stays."
+  pub place-of-closed-faces : f .marks ≡ replicate (f .h) 0 → a ≡ unmarkedPlaceAnswer k point f
+  place-of-closed-faces zeros = e ∙ closed-place-answer f zeros k point

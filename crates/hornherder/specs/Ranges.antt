@@ -1,11 +1,11 @@
--- The range test as the machine makes it, for numbers of any width: what it reads back is what was lent.
+-- The range test as the machine makes it, for numbers of any width: what it reads back is what was lent. And a loop that asks every item of a list.
 use mathlib.Core.Path.{_≡_, sym, ap, _∙_}
 use mathlib.Core.Bool.{Bool, true, false}
 use mathlib.Core.List.{List}
 use Prim.Native.Nat.{ℕ, _+_, _<_}
 use lib.ListN.{length, getD, take}
 use lib.Seq.{take-length}
-use lib.IntN.{ℤ, pos}
+use lib.IntN.{ℤ}
 use lib.Signed.{ltZ, leZ}
 use mir.Syntax.{Width}
 use mir.Val.{SFits, toZ, ofZ}
@@ -30,20 +30,16 @@ module _ {w : Width} {x least greatest : ℤ} (fx : SFits w x) (fl : SFits w lea
       let u : leZ least x ≡ true = omega flags in
       rw (toZ-ofZ fx, toZ-ofZ fg, u)
 
--- Of the first i numbers, all says whether every one lies in the range.
-pub record Through (numbers : List ℤ) (least greatest : ℤ) (i : ℕ) (all : Bool) : Type 0 where
-  pub so-far : all ≡ every (within least greatest) (take i numbers)
+-- Of the first i items, all says whether every one passes the test.
+pub record Through {A : Type 0} (test : A → Bool) (xs : List A) (i : ℕ) (all : Bool) : Type 0 where
+  pub so-far : all ≡ every test (take i xs)
 
-module _ {numbers : List ℤ} {least greatest : ℤ} {i : ℕ} {all : Bool} (t : Through numbers least greatest i all) where
-  pub through-passed : i < length numbers → within least greatest (getD numbers i (pos 0)) ≡ true → Through numbers least greatest (i + 1) all
-  through-passed l p = record {
-    so-far = t .so-far ∙ sym (every-next (within least greatest) (pos 0) numbers i l ∙ and-yes (every (within least greatest) (take i numbers)) p);
-  }
+module _ {A : Type 0} (z : A) {test : A → Bool} {xs : List A} {i : ℕ} {all : Bool} (t : Through test xs i all) where
+  pub through-passed : i < length xs → test (getD xs i z) ≡ true → Through test xs (i + 1) all
+  through-passed l p = record { so-far = t .so-far ∙ sym (every-next test z xs i l ∙ and-yes (every test (take i xs)) p) }
 
-  pub through-failed : i < length numbers → within least greatest (getD numbers i (pos 0)) ≡ false → Through numbers least greatest (i + 1) false
-  through-failed l p = record {
-    so-far = sym (every-next (within least greatest) (pos 0) numbers i l ∙ and-no (every (within least greatest) (take i numbers)) p);
-  }
+  pub through-failed : i < length xs → test (getD xs i z) ≡ false → Through test xs (i + 1) false
+  through-failed l p = record { so-far = sym (every-next test z xs i l ∙ and-no (every test (take i xs)) p) }
 
-  pub through-all : i ≡ length numbers → all ≡ every (within least greatest) numbers
-  through-all e = t .so-far ∙ ap (λ (xs : List ℤ). every (within least greatest) xs) (ap (λ (n : ℕ). take n numbers) e ∙ take-length numbers)
+pub through-all : {A : Type 0} {test : A → Bool} {xs : List A} {i : ℕ} {all : Bool} → Through test xs i all → i ≡ length xs → all ≡ every test xs
+through-all {A} {test} {xs} t e = t .so-far ∙ ap (λ (ys : List A). every test ys) (ap (λ (n : ℕ). take n xs) e ∙ take-length xs)

@@ -5,7 +5,7 @@ use mathlib.Core.Bool.{true}
 use mathlib.Core.List.{List, [], _∷_, _++_}
 use Prim.Native.Nat.{ℕ, zero, suc, _*_, _≤_, _<_}
 use native.Mathlib.Omega.{arith}
-use lib.ListN.{length, getD}
+use lib.ListN.{length, getD, replicate}
 use Rattle.whole.specs.IndexedTotal.{totalTo}
 use Rattle.terms.specs.declared.Listing.{Listing}
 use Rattle.terms.specs.declared.Screening.{Screening}
@@ -20,12 +20,13 @@ use Rattle.terms.specs.Refusals.{ifDone}
 use Rattle.terms.specs.Bound.{S, isSquare}
 use Rattle.terms.specs.ListCall.{listCode, listAnswer, listAfter, ListedAs}
 use Rattle.terms.specs.ScreenCall.{screenRefusals, screenCode, screenAnswer}
+use Rattle.terms.specs.Unmarked.{unmarkedScreenAnswer}
+use Rattle.theory.specs.ClosedFaces.{closed-screen-answer}
 use Rattle.theory.specs.FirstRefusal.{FirstHeld, if-code, if-refused}
-use Rattle.theory.specs.FirstRefusalIsLowest.{Lowest}
-use Rattle.theory.specs.ListCall.{list-answer-code}
+use Rattle.theory.specs.ListCall.{listed-code}
 use Rattle.theory.specs.FaceLentAlone.{faceAlone}
 use Rattle.theory.specs.VisitsOfTheListCall.{list-visits-le-faces, list-visits-le-S}
-use Rattle.theory.specs.ScreenCall.{screen-first, screen-lowest, screen-reads, screen-code-is-list-code, screen-visits-le, screen-visits-none}
+use Rattle.theory.specs.ScreenCall.{screen-first, screen-reads, screen-code-is-list-code, screen-visits-le, screen-visits-none}
 
 -- What a list of numbers says by its first entry.
 some : (ps : List ℕ) → (hasFirst ps ≡ 1 → 0 < length ps) × (0 < length ps → hasFirst ps ≡ 1)
@@ -73,12 +74,9 @@ module _ (s : Stock) (o : Order) (f : Faces) {b : Screening} (e : b ≡ screenAn
   unfolding screenAnswer
   screen-number = ap (λ (r : Screening). r .code) e ∙ if-code (λ (r : Screening). r .code) (screenCode s o f) _ _ refl refl
 
-  -- The number is the first refusal that holds in the order of testing, and 0 where none does; the numbers rise, so it is the lowest.
+  -- The number is the first refusal that holds in the order of testing, and 0 where none does.
   pub screen-answers-the-first : FirstHeld (screenRefusals s o f) (b .code)
   screen-answers-the-first = rw screen-number (screen-first s o f)
-
-  pub screen-answers-the-lowest : Lowest (screenRefusals s o f) (b .code)
-  screen-answers-the-lowest = rw screen-number (screen-lowest s o f)
 
   -- Of a refusal every other number is 0.
   pub screen-refused-says-no-more : b .code ≢ 0 → b ≡ record { code = b .code; found = 0; number = 0; visits = 0 }
@@ -86,6 +84,10 @@ module _ (s : Stock) (o : Order) (f : Faces) {b : Screening} (e : b ≡ screenAn
   screen-refused-says-no-more m =
       let n : screenCode s o f ≢ 0 = λ z. m (screen-number ∙ z) in
       e ∙ if-refused (screenCode s o f) _ _ n ∙ rw (← screen-number) refl
+
+  -- "With all marks 0 every answer stays."
+  pub screen-of-closed-faces : f .marks ≡ replicate (f .h) 0 → b ≡ unmarkedScreenAnswer s o f
+  screen-of-closed-faces zeros = e ∙ closed-screen-answer f zeros s o
 
   -- Places from n on are not read.
   pub screen-reads-n-slots : (q : Order) → shelfRun s o ≡ shelfRun s q → {c : Screening} → c ≡ screenAnswer s q f → b ≡ c
@@ -97,7 +99,7 @@ module _ (s : Stock) (o : Order) (f : Faces) {b : Screening} (e : b ≡ screenAn
     codes = screen-code-is-list-code s o f list room
 
     list-number : a .code ≡ listCode s o f list
-    list-number = ap (λ (r : Listing). r .code) (l .answered) ∙ list-answer-code s o f list
+    list-number = listed-code s o f list l
 
     -- Both are accepted, or refused with the same number.
     pub screen-code-is-the-list-call-s : b .code ≡ a .code

@@ -22,12 +22,13 @@ pub extern "C" fn hornherder_list(
     order: &[u32],
     normals: &[i32],
     offsets: &[i64],
+    marks: &[u8],
     list: &mut [u32],
 ) -> Listing
-    ensures { λ r. ⌜ ListedAs (stock k n (now (points .entry))) (orderOf (now (order .entry))) (faces h (now (normals .entry)) (now (offsets .entry)))
+    ensures { λ r. ⌜ ListedAs (stock k n (now (points .entry))) (orderOf (now (order .entry))) (faces h (now (normals .entry)) (now (offsets .entry)) (now (marks .entry)))
         (now (list .entry)) r (now (list .exit)) ⌝ }
 {
-    let code = list_refusal(k, n, h, points, order, normals, offsets, list);
+    let code = list_refusal(k, n, h, points, order, normals, offsets, marks, list);
     if code != 0 {
         return Listing {
             code: code,
@@ -43,6 +44,7 @@ pub extern "C" fn hornherder_list(
         &order[0..n],
         normals,
         offsets,
+        marks,
         rows,
         &mut list[..n],
     );
@@ -54,7 +56,7 @@ pub extern "C" fn hornherder_list(
     }
 }
 
-// The first of 1 to 9 that holds of the list call's arguments, or 0.
+// The first of 1 to 8, 11 and 9 that holds of the list call's arguments, or 0.
 fn list_refusal(
     k: usize,
     n: usize,
@@ -63,10 +65,11 @@ fn list_refusal(
     order: &[u32],
     normals: &[i32],
     offsets: &[i64],
+    marks: &[u8],
     list: &[u32],
 ) -> u32
     ensures { λ r. ⌜ First (listRefusals (stock k n (now (points .entry))) (orderOf (now (order .entry)))
-        (faces h (now (normals .entry)) (now (offsets .entry))) (now (list .entry))) r ⌝ }
+        (faces h (now (normals .entry)) (now (offsets .entry)) (now (marks .entry))) (now (list .entry))) r ⌝ }
 {
     let shape = stock_refusal(k, n, points);
     if shape != 0 {
@@ -84,7 +87,7 @@ fn list_refusal(
     if coordinate != 0 {
         return coordinate;
     }
-    let face = face_refusal(k, h, normals, offsets);
+    let face = face_refusal(k, h, normals, offsets, marks);
     if face != 0 {
         return face;
     }

@@ -19,10 +19,11 @@ pub extern "C" fn hornherder_place(
     point: &[i32],
     normals: &[i32],
     offsets: &[i64],
+    marks: &[u8],
 ) -> Placing
-    ensures { λ r. ⌜ r ≡ placeAnswer k (now (point .entry)) (faces h (now (normals .entry)) (now (offsets .entry))) ⌝ }
+    ensures { λ r. ⌜ r ≡ placeAnswer k (now (point .entry)) (faces h (now (normals .entry)) (now (offsets .entry)) (now (marks .entry))) ⌝ }
 {
-    let code = place_refusal(k, h, point, normals, offsets);
+    let code = place_refusal(k, h, point, normals, offsets, marks);
     if code != 0 {
         return Placing {
             code: code,
@@ -30,15 +31,22 @@ pub extern "C" fn hornherder_place(
         };
     }
     let x = point_at(k, point, 0);
-    if inside_all(k, x, normals, offsets) {
+    if inside_all(k, x, normals, offsets, marks) {
         return Placing { code: 0, inside: 1 };
     }
     Placing { code: 0, inside: 0 }
 }
 
-// The first of 1, 3 and 5 to 8 that holds of the one-point test's arguments, or 0.
-fn place_refusal(k: usize, h: usize, point: &[i32], normals: &[i32], offsets: &[i64]) -> u32
-    ensures { λ r. ⌜ First (placeRefusals k (now (point .entry)) (faces h (now (normals .entry)) (now (offsets .entry)))) r ⌝ }
+// The first of 1, 3, 5 to 8 and 11 that holds of the one-point test's arguments, or 0.
+fn place_refusal(
+    k: usize,
+    h: usize,
+    point: &[i32],
+    normals: &[i32],
+    offsets: &[i64],
+    marks: &[u8],
+) -> u32
+    ensures { λ r. ⌜ First (placeRefusals k (now (point .entry)) (faces h (now (normals .entry)) (now (offsets .entry)) (now (marks .entry)))) r ⌝ }
 {
     let dimension = dimension_refusal(k);
     if dimension != 0 {
@@ -52,5 +60,5 @@ fn place_refusal(k: usize, h: usize, point: &[i32], normals: &[i32], offsets: &[
     if coordinate != 0 {
         return coordinate;
     }
-    face_refusal(k, h, normals, offsets)
+    face_refusal(k, h, normals, offsets, marks)
 }

@@ -1,5 +1,6 @@
-// Whether numbers lie in a range, for coordinates and components and, in the wider type, for offsets.
+// Whether numbers lie in a range: coordinates and components, offsets in a wider type, marks in a narrower.
 ghost use mathlib.Core.Path.{_≡_};
+ghost use lib.Dec.{leb};
 ghost use Rattle.terms.specs.Tests.{every};
 ghost use Rattle.terms.specs.Points.{within};
 
@@ -43,6 +44,19 @@ pub fn all_within_wide(numbers: &[i64], least: i64, greatest: i64) -> bool
     let mut all = true;
     for i in 0..numbers.len() {
         if !is_within_wide(numbers[i], least, greatest) {
+            all = false;
+        }
+    }
+    all
+}
+
+// Whether every mark is at most the greatest.
+pub fn all_marks(marks: &[u8], greatest: u8) -> bool
+    ensures { λ r. ⌜ r ≡ every (λ m. leb m greatest) (now (marks .entry)) ⌝ }
+{
+    let mut all = true;
+    for i in 0..marks.len() {
+        if greatest < marks[i] {
             all = false;
         }
     }

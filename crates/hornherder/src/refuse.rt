@@ -1,11 +1,12 @@
 // The refusal tests, a function for each number that returns it where a test of its group holds, or 0; and the two groups that several calls make
 // together, the stock's shape and the faces.
+use crate::ranges::all_marks;
 use crate::ranges::all_within;
 use crate::ranges::all_within_wide;
 use arrange::check::check;
 ghost use Prim.Native.Nat.{_≤_};
 ghost use lib.ListN.{length};
-ghost use Rattle.terms.specs.Lent.{stock, orderOf, faces, facesOf};
+ghost use Rattle.terms.specs.Lent.{stock, orderOf, faces};
 ghost use Rattle.terms.specs.Refusals.{
   dimensionRefusals,
   sizeRefusals,
@@ -15,6 +16,7 @@ ghost use Rattle.terms.specs.Refusals.{
   faceCountRefusals,
   faceLengthRefusals,
   faceRangeRefusals,
+  markRefusals,
   treeRefusals,
   stockRefusals,
   faceRefusals,
@@ -89,7 +91,7 @@ fn face_count_refusal(h: usize) -> u32
 fn face_length_refusal(k: usize, h: usize, normals: &[i32], offsets: &[i64]) -> u32
     requires { ⌜ k ≤ 4 ⌝ }
     requires { ⌜ h ≤ 32 ⌝ }
-    ensures { λ r. ⌜ First (faceLengthRefusals k (faces h (now (normals .entry)) (now (offsets .entry)))) r ⌝ }
+    ensures { λ r. ⌜ First (faceLengthRefusals k h (now (normals .entry)) (now (offsets .entry))) r ⌝ }
 {
     if normals.len() != k * h {
         return 7;
@@ -102,13 +104,26 @@ fn face_length_refusal(k: usize, h: usize, normals: &[i32], offsets: &[i64]) -> 
 
 // 8 where a component or an offset is out of range.
 fn face_range_refusal(normals: &[i32], offsets: &[i64]) -> u32
-    ensures { λ r. ⌜ First (faceRangeRefusals (facesOf (now (normals .entry)) (now (offsets .entry)))) r ⌝ }
+    ensures { λ r. ⌜ First (faceRangeRefusals (now (normals .entry)) (now (offsets .entry))) r ⌝ }
 {
     if !all_within(normals, -32767, 32767) {
         return 8;
     }
     if !all_within_wide(offsets, -8589934592, 8589934592) {
         return 8;
+    }
+    0
+}
+
+// 11 where the marks are not h, or one is neither 0 nor 1.
+fn mark_refusal(h: usize, marks: &[u8]) -> u32
+    ensures { λ r. ⌜ First (markRefusals h (now (marks .entry))) r ⌝ }
+{
+    if marks.len() != h {
+        return 11;
+    }
+    if !all_marks(marks, 1) {
+        return 11;
     }
     0
 }
@@ -140,10 +155,10 @@ pub fn stock_refusal(k: usize, n: usize, points: &[i32]) -> u32
     length_refusal(k * n, points)
 }
 
-// The first of 6, 7 and 8 that holds of the faces, or 0.
-pub fn face_refusal(k: usize, h: usize, normals: &[i32], offsets: &[i64]) -> u32
+// The first of 6, 7, 8 and 11 that holds of the faces, or 0.
+pub fn face_refusal(k: usize, h: usize, normals: &[i32], offsets: &[i64], marks: &[u8]) -> u32
     requires { ⌜ k ≤ 4 ⌝ }
-    ensures { λ r. ⌜ First (faceRefusals k (faces h (now (normals .entry)) (now (offsets .entry)))) r ⌝ }
+    ensures { λ r. ⌜ First (faceRefusals k (faces h (now (normals .entry)) (now (offsets .entry)) (now (marks .entry)))) r ⌝ }
 {
     let count = face_count_refusal(h);
     if count != 0 {
@@ -153,5 +168,9 @@ pub fn face_refusal(k: usize, h: usize, normals: &[i32], offsets: &[i64]) -> u32
     if length != 0 {
         return length;
     }
-    face_range_refusal(normals, offsets)
+    let range = face_range_refusal(normals, offsets);
+    if range != 0 {
+        return range;
+    }
+    mark_refusal(h, marks)
 }

@@ -21,10 +21,11 @@ pub extern "C" fn hornherder_screen(
     order: &[u32],
     normals: &[i32],
     offsets: &[i64],
+    marks: &[u8],
 ) -> Screening
-    ensures { λ r. ⌜ r ≡ screenAnswer (stock k n (now (points .entry))) (orderOf (now (order .entry))) (faces h (now (normals .entry)) (now (offsets .entry))) ⌝ }
+    ensures { λ r. ⌜ r ≡ screenAnswer (stock k n (now (points .entry))) (orderOf (now (order .entry))) (faces h (now (normals .entry)) (now (offsets .entry)) (now (marks .entry))) ⌝ }
 {
-    let code = screen_refusal(k, n, h, points, order, normals, offsets);
+    let code = screen_refusal(k, n, h, points, order, normals, offsets, marks);
     if code != 0 {
         return Screening {
             code: code,
@@ -34,7 +35,7 @@ pub extern "C" fn hornherder_screen(
         };
     }
     let rows = root_box(k, n, points);
-    let seen = screen(k, points, &order[0..n], normals, offsets, rows);
+    let seen = screen(k, points, &order[0..n], normals, offsets, marks, rows);
     if seen.found {
         return Screening {
             code: 0,
@@ -51,7 +52,7 @@ pub extern "C" fn hornherder_screen(
     }
 }
 
-// The first of 1 to 9 that holds of the screen call's arguments, or 0.
+// The first of 1 to 8, 11 and 9 that holds of the screen call's arguments, or 0.
 fn screen_refusal(
     k: usize,
     n: usize,
@@ -60,15 +61,16 @@ fn screen_refusal(
     order: &[u32],
     normals: &[i32],
     offsets: &[i64],
+    marks: &[u8],
 ) -> u32
     ensures { λ r. ⌜ First (screenRefusals (stock k n (now (points .entry))) (orderOf (now (order .entry)))
-        (faces h (now (normals .entry)) (now (offsets .entry)))) r ⌝ }
+        (faces h (now (normals .entry)) (now (offsets .entry)) (now (marks .entry)))) r ⌝ }
 {
     let code = build_refusal(k, n, points, order);
     if code != 0 {
         return code;
     }
-    let face = face_refusal(k, h, normals, offsets);
+    let face = face_refusal(k, h, normals, offsets, marks);
     if face != 0 {
         return face;
     }

@@ -59,6 +59,20 @@ face-components {k} {f} {i} w =
     let room : i * k + k ≤ length (f .normals) = omega arith in
     record { few = w .all .few; room = room; ranges = λ d m. w .all .tested .components (i * k + d) (omega arith) }
 
+-- Face i has its offset, in range, and its mark, 0 or 1.
+pub record Marked (offsets : List ℤ) (marks : List ℕ) (i : ℕ) : Type 0 where
+  pub offset-there : i < length offsets
+  pub mark-there : i < length marks
+  pub offset-range : Between (negsuc 8589934591) (getD offsets i (pos 0)) (pos 8589934592)
+  pub mark-range : getD marks i 0 ≤ 1
+
+pub face-marked : {k : ℕ} {f : Faces} {i : ℕ} → HasFace k f i → Marked (f .offsets) (f .marks) i
+face-marked {f = f} {i = i} w =
+    let t = w .all .tested in
+    let offset : i < length (f .offsets) = omega (arith, w .known, t .offsets-size) in
+    let mark : i < length (f .marks) = omega (arith, w .known, t .marks-size) in
+    record { offset-there = offset; mark-there = mark; offset-range = t .offsets-range i offset; mark-range = t .marks-range i mark }
+
 -- The product of a component and a coordinate.
 abbrev pub products : List ℤ → ℕ → (ℕ → ℤ) → ℕ → ℤ
 products normals at x d = getD normals (at + d) (pos 0) *ℤ x d

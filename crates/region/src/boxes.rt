@@ -47,25 +47,39 @@ pub fn corner_sum(k: usize, first: [i32; 4], second: [i32; 4], normals: &[i32], 
 }
 
 // Whether a box is wholly above face i: its corner furthest against the normal is above.
-pub fn wholly_above(k: usize, rows: CornerRows, normals: &[i32], offsets: &[i64], i: usize) -> bool
+pub fn wholly_above(
+    k: usize,
+    rows: CornerRows,
+    normals: &[i32],
+    offsets: &[i64],
+    marks: &[u8],
+    i: usize,
+) -> bool
     requires { ⌜ BoxRanges k (boxOf rows) ⌝ }
-    requires { ⌜ HasFace k (facesOf (now normals) (now offsets)) i ⌝ }
-    ensures { λ r. ⌜ r ≡ whollyAbove (region k (facesOf (now (normals .entry)) (now (offsets .entry)))) (boxOf rows) i ⌝ }
+    requires { ⌜ HasFace k (facesOf (now normals) (now offsets) (now marks)) i ⌝ }
+    ensures { λ r. ⌜ r ≡ whollyAbove (region k (facesOf (now (normals .entry)) (now (offsets .entry)) (now (marks .entry)))) (boxOf rows) i ⌝ }
 {
     let low = rows.low;
     let high = rows.high;
-    above(corner_sum(k, low, high, normals, i * k), offsets[i])
+    above(corner_sum(k, low, high, normals, i * k), offsets, marks, i)
 }
 
 // Whether a box is wholly below face i: the opposite corner is below.
-pub fn wholly_below(k: usize, rows: CornerRows, normals: &[i32], offsets: &[i64], i: usize) -> bool
+pub fn wholly_below(
+    k: usize,
+    rows: CornerRows,
+    normals: &[i32],
+    offsets: &[i64],
+    marks: &[u8],
+    i: usize,
+) -> bool
     requires { ⌜ BoxRanges k (boxOf rows) ⌝ }
-    requires { ⌜ HasFace k (facesOf (now normals) (now offsets)) i ⌝ }
-    ensures { λ r. ⌜ r ≡ whollyBelow (region k (facesOf (now (normals .entry)) (now (offsets .entry)))) (boxOf rows) i ⌝ }
+    requires { ⌜ HasFace k (facesOf (now normals) (now offsets) (now marks)) i ⌝ }
+    ensures { λ r. ⌜ r ≡ whollyBelow (region k (facesOf (now (normals .entry)) (now (offsets .entry)) (now (marks .entry)))) (boxOf rows) i ⌝ }
 {
     let low = rows.low;
     let high = rows.high;
-    !above(corner_sum(k, high, low, normals, i * k), offsets[i])
+    !above(corner_sum(k, high, low, normals, i * k), offsets, marks, i)
 }
 
 // The row with its entry of dimension s replaced by x. Every entry is asked whether it is the one, so that no row has to be stored and read back.

@@ -25,23 +25,24 @@ pub fn judge(
     rows: CornerRows,
     normals: &[i32],
     offsets: &[i64],
+    marks: &[u8],
     live: &[u8; 32],
     count: usize,
     next: &mut [u8; 32],
 ) -> Judgement
     requires { ⌜ BoxRanges k (boxOf rows) ⌝ }
-    requires { ⌜ KnownFaces k (facesOf (now normals) (now offsets)) ⌝ }
-    requires { ⌜ Lives (region k (facesOf (now normals) (now offsets))) (boxOf rows) (now live) count ⌝ }
+    requires { ⌜ KnownFaces k (facesOf (now normals) (now offsets) (now marks)) ⌝ }
+    requires { ⌜ Lives (region k (facesOf (now normals) (now offsets) (now marks))) (boxOf rows) (now live) count ⌝ }
     requires { ⌜ length (now next) ≡ 32 ⌝ }
-    ensures { λ r. ⌜ Judged (region k (facesOf (now (normals .entry)) (now (offsets .entry)))) (boxOf rows) (now (live .entry)) count
+    ensures { λ r. ⌜ Judged (region k (facesOf (now (normals .entry)) (now (offsets .entry)) (now (marks .entry)))) (boxOf rows) (now (live .entry)) count
         r (now (next .exit)) ⌝ }
 {
     let mut left: usize = 0;
     for t in 0..count {
         let f = live[t];
         let i = f as usize;
-        if !wholly_above(k, rows, normals, offsets, i) {
-            if wholly_below(k, rows, normals, offsets, i) {
+        if !wholly_above(k, rows, normals, offsets, marks, i) {
+            if wholly_below(k, rows, normals, offsets, marks, i) {
                 return Judgement::Below(i);
             }
             next[left] = f;

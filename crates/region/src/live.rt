@@ -28,16 +28,17 @@ pub fn inside_live(
     x: [i32; 4],
     normals: &[i32],
     offsets: &[i64],
+    marks: &[u8],
     live: &[u8; 32],
     count: usize,
 ) -> bool
     requires { ⌜ Coordinates k (lone x) ⌝ }
-    requires { ⌜ KnownFaces k (facesOf (now normals) (now offsets)) ⌝ }
+    requires { ⌜ KnownFaces k (facesOf (now normals) (now offsets) (now marks)) ⌝ }
     requires { ⌜ LiveFaces (length (now offsets)) (now live) count ⌝ }
-    ensures { λ r. ⌜ InsideByLive (region k (facesOf (now (normals .entry)) (now (offsets .entry)))) (now (live .entry)) count (lone x) r ⌝ }
+    ensures { λ r. ⌜ InsideByLive (region k (facesOf (now (normals .entry)) (now (offsets .entry)) (now (marks .entry)))) (now (live .entry)) count (lone x) r ⌝ }
 {
     for t in 0..count {
-        if !point_above(k, x, normals, offsets, live[t] as usize) {
+        if !point_above(k, x, normals, offsets, marks, live[t] as usize) {
             return false;
         }
     }

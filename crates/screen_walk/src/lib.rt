@@ -27,11 +27,12 @@ pub fn screen(
     order: &[u32],
     normals: &[i32],
     offsets: &[i64],
+    marks: &[u8],
     rows: CornerRows,
 ) -> Seen
     requires { ⌜ Rooted k (now points) (now order) (boxOf rows) ⌝ }
-    requires { ⌜ KnownFaces k (facesOf (now normals) (now offsets)) ⌝ }
-    ensures { λ r. ⌜ ShelfScreened (region k (facesOf (now (normals .entry)) (now (offsets .entry)))) (coord k (now (points .entry)))
+    requires { ⌜ KnownFaces k (facesOf (now normals) (now offsets) (now marks)) ⌝ }
+    ensures { λ r. ⌜ ShelfScreened (region k (facesOf (now (normals .entry)) (now (offsets .entry)) (now (marks .entry)))) (coord k (now (points .entry)))
         (now (order .entry)) (r .found) (r .number) (r .visits) ⌝ }
 {
     let slots = order.len();
@@ -43,5 +44,5 @@ pub fn screen(
     };
     let h = offsets.len();
     let live = all_faces(h);
-    branch(k, points, order, normals, offsets, root, &live, h, 0)
+    branch(k, points, order, normals, offsets, marks, root, &live, h, 0)
 }

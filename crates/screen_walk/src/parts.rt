@@ -26,13 +26,14 @@ pub fn branch(
     order: &[u32],
     normals: &[i32],
     offsets: &[i64],
+    marks: &[u8],
     run: Run,
     live: &[u8; 32],
     count: usize,
     visits: usize,
 ) -> Seen
-    requires { ⌜ BranchAsks k (now points) (now order) (facesOf (now normals) (now offsets)) run (now live) count visits ⌝ }
-    ensures { λ r. ⌜ BranchDoes k (now (points .entry)) (now (order .entry)) (facesOf (now (normals .entry)) (now (offsets .entry))) run visits r ⌝ }
+    requires { ⌜ BranchAsks k (now points) (now order) (facesOf (now normals) (now offsets) (now marks)) run (now live) count visits ⌝ }
+    ensures { λ r. ⌜ BranchDoes k (now (points .entry)) (now (order .entry)) (facesOf (now (normals .entry)) (now (offsets .entry)) (now (marks .entry))) run visits r ⌝ }
 {
     let none = Seen {
         found: false,
@@ -43,7 +44,7 @@ pub fn branch(
         return none;
     }
     let mut next = [0u8; 32];
-    let judged = judge(k, run.rows, normals, offsets, live, count, &mut next);
+    let judged = judge(k, run.rows, normals, offsets, marks, live, count, &mut next);
     match judged {
         Judgement::Below(_) => {
             return none;
@@ -57,7 +58,18 @@ pub fn branch(
             };
         }
         Judgement::Open(left) => {
-            return node(k, points, order, normals, offsets, run, &next, left, visits);
+            return node(
+                k,
+                points,
+                order,
+                normals,
+                offsets,
+                marks,
+                run,
+                &next,
+                left,
+                visits,
+            );
         }
     }
 }
@@ -70,15 +82,16 @@ fn node(
     order: &[u32],
     normals: &[i32],
     offsets: &[i64],
+    marks: &[u8],
     run: Run,
     live: &[u8; 32],
     count: usize,
     visits: usize,
 ) -> Seen
-    requires { ⌜ BranchAsks k (now points) (now order) (facesOf (now normals) (now offsets)) run (now live) count visits ⌝ }
+    requires { ⌜ BranchAsks k (now points) (now order) (facesOf (now normals) (now offsets) (now marks)) run (now live) count visits ⌝ }
     requires { ⌜ 0 < run .length ⌝ }
-    requires { ⌜ isOpen (region k (facesOf (now normals) (now offsets))) (boxOf (run .rows)) ≡ true ⌝ }
-    ensures { λ r. ⌜ BranchDoes k (now (points .entry)) (now (order .entry)) (facesOf (now (normals .entry)) (now (offsets .entry))) run visits r ⌝ }
+    requires { ⌜ isOpen (region k (facesOf (now normals) (now offsets) (now marks))) (boxOf (run .rows)) ≡ true ⌝ }
+    ensures { λ r. ⌜ BranchDoes k (now (points .entry)) (now (order .entry)) (facesOf (now (normals .entry)) (now (offsets .entry)) (now (marks .entry))) run visits r ⌝ }
 {
     let middle = run.start + run.length / 2;
     let p = order[middle];
@@ -87,7 +100,18 @@ fn node(
     let mut seen = visits;
     if run.length != 1 {
         let left = left_run(run, split, next);
-        let first = branch(k, points, order, normals, offsets, left, live, count, seen);
+        let first = branch(
+            k,
+            points,
+            order,
+            normals,
+            offsets,
+            marks,
+            left,
+            live,
+            count,
+            seen,
+        );
         if first.found {
             return first;
         }
@@ -95,7 +119,7 @@ fn node(
     }
     seen += 1;
     let x = point_at(k, points, p as usize);
-    let inside = inside_live(k, x, normals, offsets, live, count);
+    let inside = inside_live(k, x, normals, offsets, marks, live, count);
     if inside {
         return Seen {
             found: true,
@@ -104,5 +128,16 @@ fn node(
         };
     }
     let right = right_run(run, split, next);
-    branch(k, points, order, normals, offsets, right, live, count, seen)
+    branch(
+        k,
+        points,
+        order,
+        normals,
+        offsets,
+        marks,
+        right,
+        live,
+        count,
+        seen,
+    )
 }

@@ -1,11 +1,12 @@
 -- What the calls promise makes up the answer: each way that the program ends is one of the answer's cases.
-use mathlib.Core.Path.{_≡_}
+use mathlib.Core.Path.{_≡_, refl, ap}
 use mathlib.Core.Logic.{_≢_}
 use mathlib.Core.Bool.{Bool, not, true, false}
-use mathlib.Core.List.{List}
-use Prim.Native.Nat.{ℕ, _*_, _≤_}
+use mathlib.Core.List.{List, _∷_}
+use Prim.Native.Nat.{ℕ, zero, suc, _*_, _≤_}
 use native.Mathlib.Nat.{mul-le-mul}
-use lib.ListN.{length, take}
+use native.Mathlib.Omega.{arith}
+use lib.ListN.{length, take, replicate}
 use lib.IntN.{ℤ}
 use Rattle.terms.specs.declared.Listing.{Listing}
 use Rattle.terms.specs.Lent.{Stock, Order, Faces, stock, faces}
@@ -39,6 +40,12 @@ module _ {s : Stock} {f : Faces} {o after : Order} {number : ℕ} (room : slotsO
   pub building-done : number ≡ 0 → Writes (Listed s after f) out r → Writes (Shelved s f) out r
   building-done z w = record { inside = w .inside; kind = build-done o after room (rw z at built) (w .kind) }
 
+-- Of as many of one item the first few are so few of it.
+take-replicate : {A : Type 0} (h n : ℕ) (x : A) → h ≤ n → take h (replicate n x) ≡ replicate h x
+take-replicate zero n x l = refl
+take-replicate (suc h) zero x l = absurd (omega arith)
+take-replicate (suc h) (suc n) x l = ap (λ ys. x ∷ ys) (take-replicate h n x (omega arith))
+
 module _ {text : List ℕ} {points normals offsets : List ℤ} {ok : Bool} {k n h : ℕ} (reads : ReadsText text points normals offsets ok k n h)
     {out : List ℕ} {r : ℕ} where
   -- The text says no numbers.
@@ -46,8 +53,10 @@ module _ {text : List ℕ} {points normals offsets : List ℤ} {ok : Bool} {k n 
   answer-ten m p = record { inside = p .inside; kind = not-the-text (reads .silent (not-true ok m)) (p .bytes) }
 
   -- The text says numbers.
-  pub answer-shelved : not ok ≡ false → Writes (Shelved (stock k n (take (k * n) points)) (faces h (take (k * h) normals) (take h offsets))) out r → Writes (Answer text) out r
-  answer-shelved y w = record { inside = w .inside; kind = the-text (reads .says (not-false ok y)) (w .kind) }
+  pub answer-shelved : not ok ≡ false → Writes (Shelved (stock k n (take (k * n) points)) (faces h (take (k * h) normals) (take h offsets) (take h (replicate 64 0)))) out r → Writes (Answer text) out r
+  answer-shelved y w =
+      let zeros : take {A = ℕ} h (replicate 64 0) ≡ replicate h 0 = take-replicate h 64 0 (reads .says (not-false ok y) .admitted .faces-few) in
+      record { inside = w .inside; kind = the-text (reads .says (not-false ok y)) (rw zeros at (w .kind)) }
 
 -- The sizes of what a text says, for which the buffers have room.
 pub record Sizes (k n h : ℕ) : Type 0 where

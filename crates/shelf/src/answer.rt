@@ -9,7 +9,7 @@ use text::input::read;
 use text::output::write_answer;
 use text::output::write_refused;
 
-// Writes the answer to a text, and says how many bytes it is.
+// Writes the answer to a text, and says how many bytes it is. The faces of a text are closed.
 pub fn answer(input: &[u8], out: &mut [u8]) -> usize
     requires { ⌜ 16384 ≤ length (now out) ⌝ }
     ensures { λ r. ⌜ Writes (Answer (now (input .entry))) (now (out .exit)) r ⌝ }
@@ -17,6 +17,7 @@ pub fn answer(input: &[u8], out: &mut [u8]) -> usize
     let mut points = [0i32; 4608];
     let mut normals = [0i32; 576];
     let mut offsets = [0i64; 64];
+    let closed = [0u8; 64];
     let said = read(input, &mut points, &mut normals, &mut offsets);
     if !said.ok {
         return write_refused(10, out);
@@ -33,6 +34,7 @@ pub fn answer(input: &[u8], out: &mut [u8]) -> usize
         &points[0..coordinates],
         &normals[0..components],
         &offsets[0..h],
+        &closed[0..h],
         out,
     )
 }
@@ -45,18 +47,19 @@ fn build_shelf(
     points: &[i32],
     normals: &[i32],
     offsets: &[i64],
+    marks: &[u8],
     out: &mut [u8],
 ) -> usize
     requires { ⌜ n ≤ 512 ⌝ }
     requires { ⌜ 16384 ≤ length (now out) ⌝ }
-    ensures { λ r. ⌜ Writes (Shelved (stock k n (now (points .entry))) (faces h (now (normals .entry)) (now (offsets .entry)))) (now (out .exit)) r ⌝ }
+    ensures { λ r. ⌜ Writes (Shelved (stock k n (now (points .entry))) (faces h (now (normals .entry)) (now (offsets .entry)) (now (marks .entry)))) (now (out .exit)) r ⌝ }
 {
     let mut order = [0u32; 512];
     let number = hornherder_build(k, n, points, &mut order);
     if number != 0 {
         return write_refused(number, out);
     }
-    list_shelf(k, n, h, points, &order, normals, offsets, out)
+    list_shelf(k, n, h, points, &order, normals, offsets, marks, out)
 }
 
 // Lists a shelf and writes its order, the counts and the list, or the refusal of the list call.
@@ -68,15 +71,16 @@ fn list_shelf(
     order: &[u32],
     normals: &[i32],
     offsets: &[i64],
+    marks: &[u8],
     out: &mut [u8],
 ) -> usize
     requires { ⌜ n ≤ 512 ⌝ }
     requires { ⌜ n ≤ length (now order) ⌝ }
     requires { ⌜ 16384 ≤ length (now out) ⌝ }
-    ensures { λ r. ⌜ Writes (Listed (stock k n (now (points .entry))) (orderOf (now (order .entry))) (faces h (now (normals .entry)) (now (offsets .entry)))) (now (out .exit)) r ⌝ }
+    ensures { λ r. ⌜ Writes (Listed (stock k n (now (points .entry))) (orderOf (now (order .entry))) (faces h (now (normals .entry)) (now (offsets .entry)) (now (marks .entry)))) (now (out .exit)) r ⌝ }
 {
     let mut list = [0u32; 512];
-    let listing = hornherder_list(k, n, h, points, order, normals, offsets, &mut list);
+    let listing = hornherder_list(k, n, h, points, order, normals, offsets, marks, &mut list);
     if listing.code != 0 {
         return write_refused(listing.code, out);
     }

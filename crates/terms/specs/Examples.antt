@@ -28,6 +28,7 @@ use Rattle.terms.specs.CheckCall.{checkAnswer}
 use Rattle.terms.specs.ListCall.{listCode, listAnswer, listAfter}
 use Rattle.terms.specs.Screen.{insideSlots, upToFirst, screenVisits}
 use Rattle.terms.specs.ScreenCall.{screenCode, screenAnswer}
+use Rattle.terms.specs.Mirror.{mirror, withFace}
 use Rattle.terms.specs.PlaceCall.{placeCode, placeAnswer}
 
 -- A negative number as one writes it.
@@ -125,6 +126,10 @@ unscreened c = record { code = c; found = 0; number = 0; visits = 0 }
 abbrev answers : ℕ → ℕ → Placing
 answers code inside = record { code = code; inside = inside }
 
+-- Faces that are all closed.
+abbrev closed : ℕ → List ℤ → List ℤ → Faces
+closed h normals offsets = faces h normals offsets (replicate h 0)
+
 -- ---- the given examples
 
 -- Shelf A.
@@ -137,27 +142,27 @@ anyA = ordered shelfA (0 ∷ 0 ∷ 0 ∷ 0 ∷ 0 ∷ 0 ∷ [])
 
 -- The two faces of the program's example.
 abbrev twoFaces : Faces
-twoFaces = faces 2 (pos 1 ∷ pos 1 ∷ minus 1 ∷ pos 0 ∷ []) (pos 7 ∷ minus 6 ∷ [])
+twoFaces = closed 2 (pos 1 ∷ pos 1 ∷ minus 1 ∷ pos 0 ∷ []) (pos 7 ∷ minus 6 ∷ [])
 
 -- Face (1, 0), m 5.
 abbrev rightOfFive : Faces
-rightOfFive = faces 1 (pos 1 ∷ pos 0 ∷ []) (pos 5 ∷ [])
+rightOfFive = closed 1 (pos 1 ∷ pos 0 ∷ []) (pos 5 ∷ [])
 
 -- Face (1, 0), m 1.
 abbrev rightOfOne : Faces
-rightOfOne = faces 1 (pos 1 ∷ pos 0 ∷ []) (pos 1 ∷ [])
+rightOfOne = closed 1 (pos 1 ∷ pos 0 ∷ []) (pos 1 ∷ [])
 
 -- Face (1, 0), m 8.
 abbrev rightOfEight : Faces
-rightOfEight = faces 1 (pos 1 ∷ pos 0 ∷ []) (pos 8 ∷ [])
+rightOfEight = closed 1 (pos 1 ∷ pos 0 ∷ []) (pos 8 ∷ [])
 
 -- Face (1, 1), m 6.
 abbrev diagonal : Faces
-diagonal = faces 1 (pos 1 ∷ pos 1 ∷ []) (pos 6 ∷ [])
+diagonal = closed 1 (pos 1 ∷ pos 1 ∷ []) (pos 6 ∷ [])
 
 -- No faces.
 abbrev noFaces : Faces
-noFaces = faces 0 [] []
+noFaces = closed 0 [] []
 
 -- Example 1: A's order is as printed.
 abbrev pub example-1-build : Row
@@ -217,7 +222,7 @@ anyPair = ordered pair (7 ∷ 7 ∷ [])
 
 -- Face 1, m 5, on a line.
 abbrev fromFive : Faces
-fromFive = faces 1 (pos 1 ∷ []) (pos 5 ∷ [])
+fromFive = closed 1 (pos 1 ∷ []) (pos 5 ∷ [])
 
 -- Example 7: the order is 0 1.
 abbrev pub example-7-build : Row
@@ -343,7 +348,7 @@ build-equal-points = builds anyEqual 0 (0 ∷ 1 ∷ 2 ∷ 3 ∷ 4 ∷ 5 ∷ 6 �
 
 -- Two slanted faces with negative components, and a zero face with m 0.
 abbrev slantedInThree : Faces
-slantedInThree = faces 3 (pos 5 ∷ pos 0 ∷ minus 4 ∷ pos 2 ∷ minus 2 ∷ minus 3 ∷ pos 0 ∷ pos 0 ∷ pos 0 ∷ []) (minus 4 ∷ minus 5 ∷ pos 0 ∷ [])
+slantedInThree = closed 3 (pos 5 ∷ pos 0 ∷ minus 4 ∷ pos 2 ∷ minus 2 ∷ minus 3 ∷ pos 0 ∷ pos 0 ∷ pos 0 ∷ []) (minus 4 ∷ minus 5 ∷ pos 0 ∷ [])
 
 -- A slanted region in three dimensions.
 abbrev pub list-ties-in-three : Row
@@ -367,7 +372,7 @@ build-three = builds anyThree 0 (0 ∷ 6 ∷ 3 ∷ 9 ∷ 2 ∷ 7 ∷ 4 ∷ 1 ∷
 
 -- A slanted face and a square one, both with negative components.
 abbrev wedgeInThree : Faces
-wedgeInThree = faces 2 (minus 3 ∷ pos 4 ∷ minus 4 ∷ minus 1 ∷ pos 0 ∷ pos 0 ∷ []) (minus 142 ∷ minus 4 ∷ [])
+wedgeInThree = closed 2 (minus 3 ∷ pos 4 ∷ minus 4 ∷ minus 1 ∷ pos 0 ∷ pos 0 ∷ []) (minus 142 ∷ minus 4 ∷ [])
 
 -- A wedge in three dimensions.
 abbrev pub list-three : Row
@@ -391,7 +396,7 @@ build-four = builds anyFour 0 (9 ∷ 0 ∷ 6 ∷ 12 ∷ 14 ∷ 4 ∷ 1 ∷ 2 ∷
 
 -- Two slanted faces in four dimensions.
 abbrev slantedInFour : Faces
-slantedInFour = faces 2 (pos 2 ∷ pos 0 ∷ minus 4 ∷ pos 5 ∷ pos 4 ∷ pos 1 ∷ pos 1 ∷ minus 1 ∷ []) (minus 57 ∷ pos 29 ∷ [])
+slantedInFour = closed 2 (pos 2 ∷ pos 0 ∷ minus 4 ∷ pos 5 ∷ pos 4 ∷ pos 1 ∷ pos 1 ∷ minus 1 ∷ []) (minus 57 ∷ pos 29 ∷ [])
 
 -- A slanted region in four dimensions.
 abbrev pub list-four : Row
@@ -423,7 +428,7 @@ build-extremes = builds anyExtremes 0 (0 ∷ 1 ∷ [])
 
 -- The extremes of component and offset; the last face runs through the least point.
 abbrev extremeFaces : Faces
-extremeFaces = faces 3 (pos 32767 ∷ pos 32767 ∷ pos 32767 ∷ pos 32767 ∷ minus 32767 ∷ minus 32767 ∷ minus 32767 ∷ minus 32767 ∷ minus 32767 ∷ minus 32767 ∷ minus 32767 ∷ minus 32767 ∷ []) (minus 8589934592 ∷ minus 8589934592 ∷ pos 4294836224 ∷ [])
+extremeFaces = closed 3 (pos 32767 ∷ pos 32767 ∷ pos 32767 ∷ pos 32767 ∷ minus 32767 ∷ minus 32767 ∷ minus 32767 ∷ minus 32767 ∷ minus 32767 ∷ minus 32767 ∷ minus 32767 ∷ minus 32767 ∷ []) (minus 8589934592 ∷ minus 8589934592 ∷ pos 4294836224 ∷ [])
 
 -- The greatest sums of products, one of them on a face.
 abbrev pub list-extremes : Row
@@ -431,7 +436,7 @@ list-extremes = lists extremes extremeFaces (0 ∷ 0 ∷ []) (counts 1 1 2) (0 �
 
 -- An offset that no point reaches.
 abbrev beyondReach : Faces
-beyondReach = faces 1 (pos 32767 ∷ pos 32767 ∷ pos 32767 ∷ pos 32767 ∷ []) (pos 8589934592 ∷ [])
+beyondReach = closed 1 (pos 32767 ∷ pos 32767 ∷ pos 32767 ∷ pos 32767 ∷ []) (pos 8589934592 ∷ [])
 
 -- All outside, no visits.
 abbrev pub list-beyond-reach : Row
@@ -439,11 +444,11 @@ list-beyond-reach = lists extremes beyondReach (0 ∷ 0 ∷ []) (counts 0 2 0) (
 
 -- A zero normal with m 0.
 abbrev zeroFace : Faces
-zeroFace = faces 1 (pos 0 ∷ pos 0 ∷ []) (pos 0 ∷ [])
+zeroFace = closed 1 (pos 0 ∷ pos 0 ∷ []) (pos 0 ∷ [])
 
 -- A zero normal with m 1.
 abbrev zeroFaceAboveNone : Faces
-zeroFaceAboveNone = faces 1 (pos 0 ∷ pos 0 ∷ []) (pos 1 ∷ [])
+zeroFaceAboveNone = closed 1 (pos 0 ∷ pos 0 ∷ []) (pos 1 ∷ [])
 
 -- All inside, no visits.
 abbrev pub list-zero-face : Row
@@ -521,7 +526,7 @@ build-refuses-low-coordinate = builds coordinateTooLow 5 (0 ∷ 1 ∷ [])
 
 -- h 33, and normals of another length.
 abbrev tooManyFaces : Faces
-tooManyFaces = faces 33 [] []
+tooManyFaces = closed 33 [] []
 
 -- 4 for a short list buffer, before 6.
 abbrev pub list-refuses-short-list : Row
@@ -537,7 +542,7 @@ list-refuses-h = lists pair tooManyFaces (3 ∷ 3 ∷ []) (refusal 6) (3 ∷ 3 �
 
 -- A component too many, and an offset out of range.
 abbrev wrongNormals : Faces
-wrongNormals = faces 1 (pos 1 ∷ pos 2 ∷ []) (pos 9000000000 ∷ [])
+wrongNormals = closed 1 (pos 1 ∷ pos 2 ∷ []) (pos 9000000000 ∷ [])
 
 -- 7 before 8.
 abbrev pub list-refuses-normals : Row
@@ -545,7 +550,7 @@ list-refuses-normals = lists pair wrongNormals (3 ∷ 3 ∷ []) (refusal 7) (3 �
 
 -- No offset, and a component out of range.
 abbrev wrongOffsets : Faces
-wrongOffsets = faces 1 (minus 32768 ∷ []) []
+wrongOffsets = closed 1 (minus 32768 ∷ []) []
 
 -- 7 for offsets of another length, before 8.
 abbrev pub list-refuses-offsets : Row
@@ -557,7 +562,7 @@ pairSwapped = ordered pair (1 ∷ 0 ∷ [])
 
 -- Component -32,768.
 abbrev componentTooLow : Faces
-componentTooLow = faces 1 (minus 32768 ∷ []) (pos 0 ∷ [])
+componentTooLow = closed 1 (minus 32768 ∷ []) (pos 0 ∷ [])
 
 -- 8 before 9.
 abbrev pub list-refuses-component : Row
@@ -565,7 +570,7 @@ list-refuses-component = lists pairSwapped componentTooLow (3 ∷ 3 ∷ []) (ref
 
 -- Component 32,768.
 abbrev componentTooHigh : Faces
-componentTooHigh = faces 1 (pos 32768 ∷ []) (pos 0 ∷ [])
+componentTooHigh = closed 1 (pos 32768 ∷ []) (pos 0 ∷ [])
 
 -- 8 for component 32,768.
 abbrev pub list-refuses-high-component : Row
@@ -573,7 +578,7 @@ list-refuses-high-component = lists pair componentTooHigh (3 ∷ 3 ∷ []) (refu
 
 -- Offset 8,589,934,593.
 abbrev offsetTooHigh : Faces
-offsetTooHigh = faces 1 (pos 1 ∷ []) (pos 8589934593 ∷ [])
+offsetTooHigh = closed 1 (pos 1 ∷ []) (pos 8589934593 ∷ [])
 
 -- 8 for an offset one too great.
 abbrev pub list-refuses-offset : Row
@@ -581,7 +586,7 @@ list-refuses-offset = lists pair offsetTooHigh (3 ∷ 3 ∷ []) (refusal 8) (3 �
 
 -- Offset -8,589,934,593.
 abbrev offsetTooLow : Faces
-offsetTooLow = faces 1 (pos 1 ∷ []) (minus 8589934593 ∷ [])
+offsetTooLow = closed 1 (pos 1 ∷ []) (minus 8589934593 ∷ [])
 
 -- 8 for an offset one too small.
 abbrev pub list-refuses-low-offset : Row
@@ -637,7 +642,7 @@ sum-0-3 = sums 0 3 0
 
 -- Four faces on the plane: the zero face, one component, one negative component, two components.
 abbrev fourFaces : Faces
-fourFaces = faces 4 (pos 0 ∷ pos 0 ∷ pos 1 ∷ pos 0 ∷ pos 0 ∷ minus 3 ∷ pos 1 ∷ minus 1 ∷ []) (pos 0 ∷ pos 0 ∷ pos 0 ∷ pos 0 ∷ [])
+fourFaces = closed 4 (pos 0 ∷ pos 0 ∷ pos 1 ∷ pos 0 ∷ pos 0 ∷ minus 3 ∷ pos 1 ∷ minus 1 ∷ []) (pos 0 ∷ pos 0 ∷ pos 0 ∷ pos 0 ∷ [])
 
 -- At most one component is not zero.
 abbrev pub square-faces : Row
@@ -653,7 +658,7 @@ build-takes-full-shelf = builds fullShelf 3 []
 
 -- h 32 on a line, all zero faces.
 abbrev mostFaces : Faces
-mostFaces = faces 32 (replicate 32 (pos 0)) (replicate 32 (pos 0))
+mostFaces = closed 32 (replicate 32 (pos 0)) (replicate 32 (pos 0))
 
 -- 32 faces are not too many.
 abbrev pub list-takes-most-faces : Row
@@ -675,13 +680,11 @@ list-refuses-short-order = lists shortOrder fromFive (3 ∷ 3 ∷ []) (refusal 4
 abbrev pub list-refuses-n : Row
 list-refuses-n = lists tooMany fromFive (3 ∷ []) (refusal 2) (3 ∷ [])
 
--- ---- the statement
-
 -- ---- the screen
 
 -- From 3 to 7.
 abbrev between : Faces
-between = faces 2 (pos 1 ∷ minus 1 ∷ []) (pos 3 ∷ minus 7 ∷ [])
+between = closed 2 (pos 1 ∷ minus 1 ∷ []) (pos 3 ∷ minus 7 ∷ [])
 
 -- The screen of the two faces: number 2 in slot 3, after the open slots 1, 2 and 3 itself.
 abbrev pub screen-two-faces : Row
@@ -750,6 +753,138 @@ screen-refuses-component = screens pairSwapped componentTooLow (unscreened 8)
 -- 9 of a screen, last.
 abbrev pub screen-refuses-order : Row
 screen-refuses-order = screens pairSwapped fromFive (unscreened 9)
+
+-- ---- open faces
+
+-- The two faces of the program's example, the second open.
+abbrev twoFacesOneOpen : Faces
+twoFacesOneOpen = faces 2 (pos 1 ∷ pos 1 ∷ minus 1 ∷ pos 0 ∷ []) (pos 7 ∷ minus 6 ∷ []) (0 ∷ 1 ∷ [])
+
+-- Number 4 lies on the open face and is outside.
+abbrev pub list-one-open-face : Row
+list-one-open-face = lists shelfA twoFacesOneOpen (0 ∷ 0 ∷ 0 ∷ 0 ∷ 0 ∷ 0 ∷ []) (counts 1 5 5) (2 ∷ 4 ∷ 3 ∷ 0 ∷ 5 ∷ 1 ∷ [])
+
+-- Face (1, 1), m 6, open.
+abbrev diagonalOpen : Faces
+diagonalOpen = faces 1 (pos 1 ∷ pos 1 ∷ []) (pos 6 ∷ []) (1 ∷ [])
+
+-- Numbers 0 and 1 lie on the face and are outside.
+abbrev pub list-open-diagonal : Row
+list-open-diagonal = lists shelfA diagonalOpen (0 ∷ 0 ∷ 0 ∷ 0 ∷ 0 ∷ 0 ∷ []) (counts 3 3 5) (2 ∷ 3 ∷ 4 ∷ 0 ∷ 5 ∷ 1 ∷ [])
+
+-- The corner (4, 2) of slot 0's box lies on the face, so the box is wholly below it.
+abbrev pub open-diagonal-settles-slot-0 : Row
+open-diagonal-settles-slot-0 = opens shelfA diagonalOpen (false ∷ true ∷ true ∷ true ∷ true ∷ true ∷ [])
+
+-- The mirror of the closed face (1, 1), m 6.
+abbrev diagonalMirrored : Faces
+diagonalMirrored = withFace noFaces (mirror (record { normal = pos 1 ∷ pos 1 ∷ []; offset = pos 6; mark = 0 }))
+
+-- The other bin along the closed face has what that one leaves, number 5, and the same visits.
+abbrev pub list-mirrored-diagonal : Row
+list-mirrored-diagonal = lists shelfA diagonalMirrored (0 ∷ 0 ∷ 0 ∷ 0 ∷ 0 ∷ 0 ∷ []) (counts 1 5 6) (5 ∷ 4 ∷ 3 ∷ 2 ∷ 0 ∷ 1 ∷ [])
+
+-- Face (1, 0), m 1, open.
+abbrev rightOfOneOpen : Faces
+rightOfOneOpen = faces 1 (pos 1 ∷ pos 0 ∷ []) (pos 1 ∷ []) (1 ∷ [])
+
+-- Number 0 lies on the face and is outside.
+abbrev pub list-open-root-corner : Row
+list-open-root-corner = lists shelfA rightOfOneOpen (0 ∷ 0 ∷ 0 ∷ 0 ∷ 0 ∷ 0 ∷ []) (counts 5 1 4) (1 ∷ 5 ∷ 2 ∷ 3 ∷ 4 ∷ 0 ∷ [])
+
+-- A corner of the root box lies on the face, so it is not wholly above it, nor are the boxes of slots 0, 1 and 2.
+abbrev pub open-root-corner : Row
+open-root-corner = opens shelfA rightOfOneOpen (true ∷ true ∷ true ∷ true ∷ false ∷ false ∷ [])
+
+-- The screen of it: number 1 in slot 0, which is open.
+abbrev pub screen-open-root-corner : Row
+screen-open-root-corner = screens shelfA rightOfOneOpen (finds 1 1)
+
+-- Face (1, 0), m 7.
+abbrev rightOfSeven : Faces
+rightOfSeven = closed 1 (pos 1 ∷ pos 0 ∷ []) (pos 7 ∷ [])
+
+-- The greatest coordinate lies on the closed face: number 3 in slot 4, after slot 3.
+abbrev pub screen-on-closed-face : Row
+screen-on-closed-face = screens shelfA rightOfSeven (finds 3 2)
+
+-- The same, open.
+abbrev rightOfSevenOpen : Faces
+rightOfSevenOpen = faces 1 (pos 1 ∷ pos 0 ∷ []) (pos 7 ∷ []) (1 ∷ [])
+
+-- The root box is wholly below the open face: none, no visits.
+abbrev pub screen-on-open-face : Row
+screen-on-open-face = screens shelfA rightOfSevenOpen (findsNone 0)
+
+-- A point on a closed face is inside.
+abbrev pub test-on-closed-face : Row
+test-on-closed-face = tests 2 (pos 7 ∷ pos 1 ∷ []) rightOfSeven (answers 0 1)
+
+-- A point on an open face is outside.
+abbrev pub test-on-open-face : Row
+test-on-open-face = tests 2 (pos 7 ∷ pos 1 ∷ []) rightOfSevenOpen (answers 0 0)
+
+-- One more is inside.
+abbrev pub test-past-open-face : Row
+test-past-open-face = tests 2 (pos 8 ∷ pos 1 ∷ []) rightOfSevenOpen (answers 0 1)
+
+-- The zero face with m 0, open: its sum is 0, which is not greater.
+abbrev zeroFaceOpen : Faces
+zeroFaceOpen = faces 1 (pos 0 ∷ pos 0 ∷ []) (pos 0 ∷ []) (1 ∷ [])
+
+-- None is above the open zero face.
+abbrev pub list-open-zero-face : Row
+list-open-zero-face = lists one zeroFaceOpen (3 ∷ []) (counts 0 1 0) (0 ∷ [])
+
+-- No mark for the one face.
+abbrev markMissing : Faces
+markMissing = faces 1 (pos 1 ∷ []) (pos 5 ∷ []) []
+
+-- 11 for a mark too few, before 9.
+abbrev pub list-refuses-missing-mark : Row
+list-refuses-missing-mark = lists pairSwapped markMissing (3 ∷ 3 ∷ []) (refusal 11) (3 ∷ 3 ∷ [])
+
+-- A mark too many.
+abbrev markTooMany : Faces
+markTooMany = faces 1 (pos 1 ∷ []) (pos 5 ∷ []) (0 ∷ 0 ∷ [])
+
+-- 11 for a mark too many.
+abbrev pub list-refuses-extra-mark : Row
+list-refuses-extra-mark = lists pair markTooMany (3 ∷ 3 ∷ []) (refusal 11) (3 ∷ 3 ∷ [])
+
+-- Mark 2.
+abbrev markTwo : Faces
+markTwo = faces 1 (pos 1 ∷ []) (pos 5 ∷ []) (2 ∷ [])
+
+-- 11 for another mark than 0 and 1.
+abbrev pub list-refuses-mark : Row
+list-refuses-mark = lists pair markTwo (3 ∷ 3 ∷ []) (refusal 11) (3 ∷ 3 ∷ [])
+
+-- Offset 8,589,934,593, and mark 2.
+abbrev offsetAndMark : Faces
+offsetAndMark = faces 1 (pos 1 ∷ []) (pos 8589934593 ∷ []) (2 ∷ [])
+
+-- 8 before 11.
+abbrev pub list-refuses-offset-before-mark : Row
+list-refuses-offset-before-mark = lists pair offsetAndMark (3 ∷ 3 ∷ []) (refusal 8) (3 ∷ 3 ∷ [])
+
+-- 11 of a screen, before 9.
+abbrev pub screen-refuses-mark : Row
+screen-refuses-mark = screens pairSwapped markTwo (unscreened 11)
+
+-- 8 of a screen, before 11.
+abbrev pub screen-refuses-offset-before-mark : Row
+screen-refuses-offset-before-mark = screens pair offsetAndMark (unscreened 8)
+
+-- 11 of a test of one point, last.
+abbrev pub test-refuses-mark : Row
+test-refuses-mark = tests 1 (pos 4 ∷ []) markTwo (answers 11 0)
+
+-- 8 of a test of one point, before 11.
+abbrev pub test-refuses-offset-before-mark : Row
+test-refuses-offset-before-mark = tests 1 (pos 4 ∷ []) offsetAndMark (answers 8 0)
+
+-- ---- the statement
 
 -- The table.
 abbrev pub table : List Row
@@ -851,6 +986,27 @@ table =
     ∷ screen-refuses-normals
     ∷ screen-refuses-component
     ∷ screen-refuses-order
+    ∷ list-one-open-face
+    ∷ list-open-diagonal
+    ∷ open-diagonal-settles-slot-0
+    ∷ list-mirrored-diagonal
+    ∷ list-open-root-corner
+    ∷ open-root-corner
+    ∷ screen-open-root-corner
+    ∷ screen-on-closed-face
+    ∷ screen-on-open-face
+    ∷ test-on-closed-face
+    ∷ test-on-open-face
+    ∷ test-past-open-face
+    ∷ list-open-zero-face
+    ∷ list-refuses-missing-mark
+    ∷ list-refuses-extra-mark
+    ∷ list-refuses-mark
+    ∷ list-refuses-offset-before-mark
+    ∷ screen-refuses-mark
+    ∷ screen-refuses-offset-before-mark
+    ∷ test-refuses-mark
+    ∷ test-refuses-offset-before-mark
     ∷ []
 
 -- Every row holds of the calls as they are defined.
@@ -954,4 +1110,25 @@ examples-hold =
     also screen-refuses-normals by refl
     also screen-refuses-component by refl
     also screen-refuses-order by refl
+    also list-one-open-face by (refl, refl)
+    also list-open-diagonal by (refl, refl)
+    also open-diagonal-settles-slot-0 by refl
+    also list-mirrored-diagonal by (refl, refl)
+    also list-open-root-corner by (refl, refl)
+    also open-root-corner by refl
+    also screen-open-root-corner by refl
+    also screen-on-closed-face by refl
+    also screen-on-open-face by refl
+    also test-on-closed-face by refl
+    also test-on-open-face by refl
+    also test-past-open-face by refl
+    also list-open-zero-face by (refl, refl)
+    also list-refuses-missing-mark by (refl, refl)
+    also list-refuses-extra-mark by (refl, refl)
+    also list-refuses-mark by (refl, refl)
+    also list-refuses-offset-before-mark by (refl, refl)
+    also screen-refuses-mark by refl
+    also screen-refuses-offset-before-mark by refl
+    also test-refuses-mark by refl
+    also test-refuses-offset-before-mark by refl
     also nothing-left

@@ -14,11 +14,12 @@ pub record Stock : Type 0 where
 pub record Order : Type 0 where
   pub slots : List ℕ
 
--- The faces: h of them, k components to a face, and an offset for each.
+-- The faces: h of them, k components to a face, and an offset and a mark for each, 0 closed or 1 open.
 pub record Faces : Type 0 where
   pub h : ℕ
   pub normals : List ℤ
   pub offsets : List ℤ
+  pub marks : List ℕ
 
 -- The stock as a call is handed it.
 abbrev pub stock : ℕ → ℕ → List ℤ → Stock
@@ -29,9 +30,9 @@ abbrev pub orderOf : List ℕ → Order
 orderOf slots = record { slots = slots }
 
 -- The faces as a call is handed them.
-abbrev pub faces : ℕ → List ℤ → List ℤ → Faces
-faces h normals offsets = record { h = h; normals = normals; offsets = offsets }
+abbrev pub faces : ℕ → List ℤ → List ℤ → List ℕ → Faces
+faces h normals offsets marks = record { h = h; normals = normals; offsets = offsets; marks = marks }
 
 -- Faces that were tested are as many as their offsets.
-abbrev pub facesOf : List ℤ → List ℤ → Faces
-facesOf normals offsets = faces (length offsets) normals offsets
+abbrev pub facesOf : List ℤ → List ℤ → List ℕ → Faces
+facesOf normals offsets marks = faces (length offsets) normals offsets marks

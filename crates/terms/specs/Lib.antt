@@ -17,3 +17,5 @@ pub mod ListCall
 pub mod ScreenCall
 pub mod PlaceCall
 pub mod Examples
+pub mod Unmarked
+pub mod Mirror

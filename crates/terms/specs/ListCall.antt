@@ -12,7 +12,7 @@ use Rattle.terms.specs.Visits.{visits}
 use Rattle.terms.specs.Lists.{insides, outsides, places}
 use Rattle.terms.specs.Refusals.{Refusal, firstOf, stockRefusals, roomRefusals, coordinateRefusals, faceRefusals, treeRefusals, ifDone}
 
--- List: 1 to 9.
+-- List: 1 to 8, 11, then 9.
 abbrev pub listRefusals : Stock → Order → Faces → List ℕ → List Refusal
 listRefusals s o f list =
     stockRefusals s

@@ -9,7 +9,7 @@ use Rattle.terms.specs.Points.{lone}
 use Rattle.terms.specs.Region.{region, inside}
 use Rattle.terms.specs.Refusals.{Refusal, firstOf, dimensionRefusals, lengthRefusals, coordinateRefusals, faceRefusals, ifDone}
 
--- One-point test: 1, 3, 5 to 8.
+-- One-point test: 1, 3, 5 to 8, 11.
 abbrev pub placeRefusals : ℕ → List ℤ → Faces → List Refusal
 placeRefusals k point f = dimensionRefusals k ++ lengthRefusals k point ++ coordinateRefusals point ++ faceRefusals k f
 

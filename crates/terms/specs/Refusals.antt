@@ -9,7 +9,7 @@ use lib.Dec.{leb, ltb, eqb}
 use Rattle.terms.specs.Tests.{every}
 use Rattle.terms.specs.Lent.{Stock, Order, Faces}
 use Rattle.terms.specs.Points.{isCoordinate}
-use Rattle.terms.specs.Region.{isComponent, isOffset}
+use Rattle.terms.specs.Region.{isComponent, isOffset, isMark}
 use Rattle.terms.specs.Tree.{isShelf}
 
 -- A number with the test for which it is given.
@@ -51,14 +51,18 @@ abbrev pub faceCountRefusals : ℕ → List Refusal
 faceCountRefusals h = record { number = 6; holds = ltb 32 h } ∷ []
 
 -- 7: the normals are not k times h, or the offsets not h.
-abbrev pub faceLengthRefusals : ℕ → Faces → List Refusal
-faceLengthRefusals k f =
-    record { number = 7; holds = notLong (k * f .h) (f .normals) } ∷ record { number = 7; holds = notLong (f .h) (f .offsets) } ∷ []
+abbrev pub faceLengthRefusals : ℕ → ℕ → List ℤ → List ℤ → List Refusal
+faceLengthRefusals k h normals offsets =
+    record { number = 7; holds = notLong (k * h) normals } ∷ record { number = 7; holds = notLong h offsets } ∷ []
 
 -- 8: a component or an offset is out of range.
-abbrev pub faceRangeRefusals : Faces → List Refusal
-faceRangeRefusals f =
-    record { number = 8; holds = not (every isComponent (f .normals)) } ∷ record { number = 8; holds = not (every isOffset (f .offsets)) } ∷ []
+abbrev pub faceRangeRefusals : List ℤ → List ℤ → List Refusal
+faceRangeRefusals normals offsets =
+    record { number = 8; holds = not (every isComponent normals) } ∷ record { number = 8; holds = not (every isOffset offsets) } ∷ []
+
+-- 11: the marks are not h, or one is neither 0 nor 1.
+abbrev pub markRefusals : ℕ → List ℕ → List Refusal
+markRefusals h marks = record { number = 11; holds = notLong h marks } ∷ record { number = 11; holds = not (every isMark marks) } ∷ []
 
 -- 9: the first n slots are not the tree of these points.
 abbrev pub treeRefusals : Stock → Order → List Refusal
@@ -68,9 +72,13 @@ treeRefusals s o = record { number = 9; holds = not (isShelf s o) } ∷ []
 abbrev pub stockRefusals : Stock → List Refusal
 stockRefusals s = dimensionRefusals (s .k) ++ sizeRefusals (s .n) ++ lengthRefusals (s .k * s .n) (s .points)
 
--- The faces: 6, 7 and 8.
+-- The faces: 6, 7, 8 and 11.
 abbrev pub faceRefusals : ℕ → Faces → List Refusal
-faceRefusals k f = faceCountRefusals (f .h) ++ faceLengthRefusals k f ++ faceRangeRefusals f
+faceRefusals k f =
+    faceCountRefusals (f .h)
+    ++ faceLengthRefusals k (f .h) (f .normals) (f .offsets)
+    ++ faceRangeRefusals (f .normals) (f .offsets)
+    ++ markRefusals (f .h) (f .marks)
 
 -- The first value where the number is 0, done; the second where it is a refusal.
 abbrev pub ifDone : {A : Type 0} → ℕ → A → A → A

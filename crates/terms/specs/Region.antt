@@ -2,20 +2,22 @@
 use mathlib.Core.Bool.{Bool, _||_, cond, not}
 use Prim.Native.Nat.{ℕ, _+_, _*_}
 use lib.ListN.{getD}
+use lib.Dec.{eqb, leb}
 use lib.IntN.{ℤ, pos, negsuc, _*ℤ_}
-use lib.Signed.{leZ, nonNeg}
+use lib.Signed.{leZ, ltZ, nonNeg}
 use Rattle.whole.specs.IndexedSum.{sumTo}
 use Rattle.terms.specs.Tests.{allTo, anyTo}
 use Rattle.terms.specs.Lent.{Faces}
 use Rattle.terms.specs.Points.{within}
 use Rattle.terms.specs.Box.{Box}
 
--- k dimensions and h faces: component d of face i's normal, and its offset.
+-- k dimensions and h faces: component d of face i's normal, its offset, and whether it is marked open.
 pub record Region : Type 0 where
   pub k : ℕ
   pub h : ℕ
   pub component : ℕ → ℕ → ℤ
   pub offset : ℕ → ℤ
+  pub markedOpen : ℕ → Bool
 
 -- The region of the lent faces, k components to a face.
 abbrev pub region : ℕ → Faces → Region
@@ -24,11 +26,18 @@ region k f = record {
   h = f .h;
   component = λ i d. getD (f .normals) (i * k + d) (pos 0);
   offset = λ i. getD (f .offsets) i (pos 0);
+  markedOpen = λ i. eqb (getD (f .marks) i 0) 1;
 }
 
 -- Face i taken as a region alone.
 abbrev pub alone : Region → ℕ → Region
-alone g i = record { k = g .k; h = 1; component = λ z. g .component i; offset = λ z. g .offset i }
+alone g i = record {
+  k = g .k;
+  h = 1;
+  component = λ z. g .component i;
+  offset = λ z. g .offset i;
+  markedOpen = λ z. g .markedOpen i;
+}
 
 -- A component is -32,767 to 32,767.
 abbrev pub isComponent : ℤ → Bool
@@ -42,9 +51,13 @@ isOffset z = within (negsuc 8589934591) (pos 8589934592) z
 abbrev pub reach : Region → ℕ → (ℕ → ℤ) → ℤ
 reach g i x = sumTo (g .k) (λ d. g .component i d *ℤ x d)
 
--- A sum of products v is above face i: at least its offset.
+-- A mark is 0 or 1.
+abbrev pub isMark : ℕ → Bool
+isMark m = leb m 1
+
+-- A sum of products v is above face i: at least its offset, and strictly greater where the face is marked open.
 unfoldable pub aboveAt : Region → ℕ → ℤ → Bool
-aboveAt g i v = leZ (g .offset i) v
+aboveAt g i v = cond (g .markedOpen i) (ltZ (g .offset i) v) (leZ (g .offset i) v)
 
 -- The point is above face i; otherwise it is below.
 abbrev pub above : Region → ℕ → (ℕ → ℤ) → Bool

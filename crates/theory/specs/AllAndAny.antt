@@ -68,12 +68,13 @@ one-any-true h test (i, l, e) = go (anyTo h test) refl
     go true a = refl
     go false a = clash e (any-none h test a i l)
 
-pub all-same : (h : ℕ) (p q : ℕ → Bool) → ((i : ℕ) → p i ≡ q i) → allTo h p ≡ allTo h q
+-- Tests that agree below the bound agree for all and for some.
+pub all-same : (h : ℕ) (p q : ℕ → Bool) → ((i : ℕ) → i < h → p i ≡ q i) → allTo h p ≡ allTo h q
 unfolding allTo
 all-same zero p q e = refl
-all-same (suc h) p q e = rw (all-same h p q e, e h)
+all-same (suc h) p q e = rw (all-same h p q (λ i l. e i (omega arith)), e h (omega arith))
 
-pub any-same : (h : ℕ) (p q : ℕ → Bool) → ((i : ℕ) → p i ≡ q i) → anyTo h p ≡ anyTo h q
+pub any-same : (h : ℕ) (p q : ℕ → Bool) → ((i : ℕ) → i < h → p i ≡ q i) → anyTo h p ≡ anyTo h q
 unfolding anyTo
 any-same zero p q e = refl
-any-same (suc h) p q e = rw (any-same h p q e, e h)
+any-same (suc h) p q e = rw (any-same h p q (λ i l. e i (omega arith)), e h (omega arith))

@@ -1,34 +1,32 @@
--- A face lent alone: its components and its offset cut out of the lent lists. As a region these are the face taken alone, so its visits are the
+-- A face lent alone: its components, its offset and its mark cut out of the lent lists. As a region these are the face taken alone, so its visits are the
 -- same; and where the call on all faces is done, the call on the one is.
 use mathlib.Core.Path.{_≡_, refl, sym, ap, _∙_}
-use mathlib.Core.Bool.{Bool, true, not}
-use mathlib.Core.List.{List, [], _∷_, _++_}
+use mathlib.Core.Bool.{Bool, true}
+use mathlib.Core.List.{List, [], _∷_}
 use Prim.Native.Nat.{ℕ, _+_, _*_, _≤_, _<_}
 use native.Mathlib.Nat.{mul-le-mul-right, suc-mul}
 use native.Mathlib.Omega.{arith}
 use lib.ListN.{length, getD, take, drop, length-take, length-drop}
 use lib.Seq.{getD-take, getD-drop, length-take-le}
 use lib.IntN.{ℤ, pos, _*ℤ_}
-use borrow.Author.Tests.{eq-eqb}
 use Rattle.whole.specs.IndexedSum.{sum-same}
-use Rattle.terms.specs.Tests.{every, count, allTo, anyTo}
+use Rattle.terms.specs.Tests.{every, allTo, anyTo}
 use Rattle.terms.specs.Lent.{Stock, Order, Faces, faces}
 use Rattle.terms.specs.Box.{Box, rootBox, shelfBoxes}
-use Rattle.terms.specs.Region.{region, alone, above, aboveAt, bySign, isSettled, isOpen, isComponent, isOffset}
+use Rattle.terms.specs.Region.{region, alone, above, aboveAt, bySign, isSettled, isOpen, isComponent, isOffset, isMark}
 use Rattle.terms.specs.Visits.{visits}
-use Rattle.terms.specs.Refusals.{faceCountRefusals, faceLengthRefusals, faceRangeRefusals, faceRefusals}
+use Rattle.terms.specs.Refusals.{faceRefusals}
 use Rattle.terms.specs.ListCall.{listCode}
-use Rattle.theory.specs.Flags.{not-false}
 use Rattle.theory.specs.Counting.{every-at, at-every, count-same}
-use Rattle.theory.specs.AboveIsUpward.{above-same-offset, above-alone}
+use Rattle.theory.specs.AboveIsUpward.{above-same-face, above-alone}
 use Rattle.theory.specs.BoxFuel.{visits-count}
-use Rattle.theory.specs.FirstRefusal.{Passed, passed-parts, passed-next, passed-none}
-use Rattle.theory.specs.RefusalsPassed.{faces-passed}
-use Rattle.theory.specs.ListCall.{list-groups, groups-listed}
+use Rattle.theory.specs.FirstRefusal.{Passed}
+use Rattle.theory.specs.RefusalsPassed.{faces-fit, fit-faces}
+use Rattle.theory.specs.ListCall.{list-groups, other-faces-done}
 
--- Face i lent alone: its components and its offset.
+-- Face i lent alone: its components, its offset and its mark.
 abbrev pub faceAlone : ℕ → Faces → ℕ → Faces
-faceAlone k f i = faces 1 (take k (drop (i * k) (f .normals))) (getD (f .offsets) i (pos 0) ∷ [])
+faceAlone k f i = faces 1 (take k (drop (i * k) (f .normals))) (getD (f .offsets) i (pos 0) ∷ []) (getD (f .marks) i 0 ∷ [])
 
 module _ (k : ℕ) (f : Faces) (i : ℕ) where
   -- Its components as it is lent alone.
@@ -45,7 +43,7 @@ module _ (k : ℕ) (f : Faces) (i : ℕ) where
       → above (region k (faceAlone k f i)) 0 (λ d. corner (getD normals (0 * k + d) (pos 0)) d)
       ≡ above (alone (region k f) i) 0 (λ d. corner (getD (f .normals) (i * k + d) (pos 0)) d)
   lent-above corner =
-      above-same-offset (region k (faceAlone k f i)) (region k f) 0 i refl _
+      above-same-face (region k (faceAlone k f i)) (region k f) 0 i refl refl _
       ∙ ap (aboveAt (region k f) i) (sum-same k _ _ (λ d l. ap (λ (c : ℤ). c *ℤ corner c d) (lent-component d l)))
       ∙ sym (above-alone (region k f) i 0 _)
 
@@ -71,25 +69,25 @@ every-part z test a c xs e = at-every test z (take c (drop a xs))
 face-alone-passed : (k : ℕ) (f : Faces) → Passed (faceRefusals k f) → (i : ℕ) → i < f .h → Passed (faceRefusals k (faceAlone k f i))
 unfolding every
 face-alone-passed k f w i l =
-    let t = faces-passed k f w in
-    let ranges = passed-parts (faceLengthRefusals k f) (faceRangeRefusals f) (passed-parts (faceCountRefusals (f .h)) (faceLengthRefusals k f ++ faceRangeRefusals f) w .1) .1 in
-    let size = t .normals-size in
+    let t = faces-fit k f w in
+    let size = t .sized .normals-size in
     let room : k ≤ length (drop (i * k) (f .normals)) = omega (arith, length-drop (i * k) (f .normals), mul-le-mul-right k l, suc-mul i k) in
-    let long : length (faceAlone k f i .normals) ≡ k * 1 = omega (arith, length-take-le k (drop (i * k) (f .normals)) room) in
-    let components = every-part (pos 0) isComponent (i * k) k (f .normals) (not-false (every isComponent (f .normals)) (ranges .fails 0)) in
-    let offset = every-at isOffset (pos 0) (f .offsets) (not-false (every isOffset (f .offsets)) (ranges .fails 1)) i (omega (arith, t .offsets-size)) in
-    passed-next refl (passed-next (ap not (eq-eqb _ _ long)) (passed-next refl (passed-next (ap not components) (passed-next (rw offset) passed-none))))
+    let offset = every-at isOffset (pos 0) (f .offsets) (t .offsets-range) i (omega (arith, t .sized .offsets-size)) in
+    let mark = every-at isMark 0 (f .marks) (t .marks-range) i (omega (arith, t .sized .marks-size)) in
+    fit-faces k (faceAlone k f i) (record {
+      many = omega arith;
+      sized = record {
+        normals-size = omega (arith, length-take-le k (drop (i * k) (f .normals)) room);
+        offsets-size = refl;
+        marks-size = refl;
+      };
+      components = every-part (pos 0) isComponent (i * k) k (f .normals) (t .components);
+      offsets-range = rw offset;
+      marks-range = rw mark;
+    })
 
 -- Where the list call on all faces is done, so is the one on a face alone.
 pub lent-done : (s : Stock) (o : Order) (f : Faces) (list : List ℕ) → listCode s o f list ≡ 0 → (i : ℕ) → i < f .h
     → listCode s o (faceAlone (s .k) f i) list ≡ 0
 lent-done s o f list e i l =
-    let w = list-groups s o f list e in
-    groups-listed s o (faceAlone (s .k) f i) list (record {
-      shape = w .shape;
-      order-room = w .order-room;
-      list-room = w .list-room;
-      coordinates = w .coordinates;
-      faces = face-alone-passed (s .k) f (w .faces) i l;
-      tree = w .tree;
-    })
+    other-faces-done s o f (faceAlone (s .k) f i) list e (face-alone-passed (s .k) f (list-groups s o f list e .faces) i l)

@@ -17,7 +17,7 @@ use Rattle.theory.specs.Counting.{Same, count-append}
 use Rattle.theory.specs.Keeping.{keep-keep, keep-same}
 use Rattle.theory.specs.AllAndAny.{all-same, any-same}
 use Rattle.theory.specs.InsideAndOutside.{lists-count}
-use Rattle.theory.specs.AboveIsUpward.{above-same-offset}
+use Rattle.theory.specs.AboveIsUpward.{above-same-face}
 
 -- ---- all and some, over a bound cut in two
 all-add : (a b : ℕ) (test : ℕ → Bool) → allTo (a + b) test ≡ allTo a test && allTo b (λ i. test (a + i))
@@ -39,22 +39,32 @@ pub all-split : (h a : ℕ) (test front back : ℕ → Bool) → a ≤ h → ((i
     → allTo h test ≡ allTo a front && allTo (h - a) back
 all-split h a test front back l e f =
     let s : h ≡ a + (h - a) = omega arith in
-    ap (λ (n : ℕ). allTo n test) s ∙ all-add a (h - a) test ∙ rw (all-same a front test e, all-same (h - a) back (λ i. test (a + i)) f)
+    ap (λ (n : ℕ). allTo n test) s
+    ∙ all-add a (h - a) test
+    ∙ rw (all-same a front test (λ i l. e i), all-same (h - a) back (λ i. test (a + i)) (λ i l. f i))
 
 pub any-split : (h a : ℕ) (test front back : ℕ → Bool) → a ≤ h → ((i : ℕ) → front i ≡ test i) → ((i : ℕ) → back i ≡ test (a + i))
     → anyTo h test ≡ anyTo a front || anyTo (h - a) back
 any-split h a test front back l e f =
     let s : h ≡ a + (h - a) = omega arith in
-    ap (λ (n : ℕ). anyTo n test) s ∙ any-add a (h - a) test ∙ rw (any-same a front test e, any-same (h - a) back (λ i. test (a + i)) f)
+    ap (λ (n : ℕ). anyTo n test) s
+    ∙ any-add a (h - a) test
+    ∙ rw (any-same a front test (λ i l. e i), any-same (h - a) back (λ i. test (a + i)) (λ i l. f i))
 
 -- ---- the two parts of a region
 -- The region of the first a faces.
 abbrev pub first : Region → ℕ → Region
-first g a = record { k = g .k; h = a; component = g .component; offset = g .offset }
+first g a = record { k = g .k; h = a; component = g .component; offset = g .offset; markedOpen = g .markedOpen }
 
 -- The region of the faces from a on.
 abbrev pub rest : Region → ℕ → Region
-rest g a = record { k = g .k; h = g .h - a; component = λ i. g .component (a + i); offset = λ i. g .offset (a + i) }
+rest g a = record {
+  k = g .k;
+  h = g .h - a;
+  component = λ i. g .component (a + i);
+  offset = λ i. g .offset (a + i);
+  markedOpen = λ i. g .markedOpen (a + i);
+}
 
 -- The box is wholly below some face.
 abbrev pub someBelow : Region → Box → Bool
@@ -75,10 +85,10 @@ says-open g b s t = true-not (false-or s t)
 
 module _ (g : Region) (a : ℕ) where
   above-first : (i : ℕ) (x : ℕ → ℤ) → above (first g a) i x ≡ above g i x
-  above-first i x = above-same-offset (first g a) g i i refl (reach g i x)
+  above-first i x = above-same-face (first g a) g i i refl refl (reach g i x)
 
   above-rest : (i : ℕ) (x : ℕ → ℤ) → above (rest g a) i x ≡ above g (a + i) x
-  above-rest i x = above-same-offset (rest g a) g i (a + i) refl (reach g (a + i) x)
+  above-rest i x = above-same-face (rest g a) g i (a + i) refl refl (reach g (a + i) x)
 
   module _ (few : a ≤ g .h) where
     -- "Inside means above every face": of the first, and of the rest.

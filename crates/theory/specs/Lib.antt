@@ -37,6 +37,8 @@ pub mod SquareBound
 pub mod FaceLentAlone
 pub mod VisitsOfTheListCall
 pub mod FacesSplit
+pub mod ClosedFaces
+pub mod MirroredFaces
 pub mod TreeIsDistinct
 pub mod TreeDepth
 pub mod RunTests

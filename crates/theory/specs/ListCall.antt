@@ -1,6 +1,6 @@
 -- The list call: the first refusal is its number, what it has tested where that is 0, what it reads of the order and of the list buffer, and what it writes.
 -- Done, the order has n slots and the buffer n places, and the two lists fill just those.
-use mathlib.Core.Path.{_≡_, refl, sym, _∙_}
+use mathlib.Core.Path.{_≡_, refl, sym, ap, _∙_}
 use mathlib.Core.Logic.{_≢_}
 use mathlib.Core.Bool.{true}
 use mathlib.Core.List.{List, _++_}
@@ -16,11 +16,10 @@ use Rattle.terms.specs.Tree.{shelfRun, isShelf}
 use Rattle.terms.specs.Region.{region}
 use Rattle.terms.specs.Lists.{places}
 use Rattle.terms.specs.Refusals.{Refusal, stockRefusals, roomRefusals, coordinateRefusals, faceRefusals, treeRefusals}
-use Rattle.terms.specs.ListCall.{listRefusals, listCode, listAnswer, listAfter}
+use Rattle.terms.specs.ListCall.{listRefusals, listCode, listAnswer, listAfter, ListedAs}
 use Rattle.theory.specs.Tested.{TestedPoints, TestedFaces}
 use Rattle.theory.specs.InsideAndOutside.{places-length}
 use Rattle.theory.specs.FirstRefusal.{Passed, FirstHeld, noZero, first-held, first-zero, passed-parts, passed-join, if-refused, if-code}
-use Rattle.theory.specs.FirstRefusalIsLowest.{Lowest, risesFrom, first-lowest}
 use Rattle.theory.specs.RefusalsPassed.{stock-passed, room-passed, faces-passed, tree-passed}
 use Rattle.theory.specs.CheckCall.{room-same}
 
@@ -37,11 +36,6 @@ module _ (s : Stock) (o : Order) (f : Faces) (list : List ℕ) where
   pub list-first : FirstHeld (listRefusals s o f list) (listCode s o f list)
   unfolding noZero listCode
   list-first = first-held (listRefusals s o f list) refl
-
-  -- The numbers rise, so the first is the lowest: "the lowest that holds is returned".
-  pub list-lowest : Lowest (listRefusals s o f list) (listCode s o f list)
-  unfolding risesFrom listCode
-  list-lowest = first-lowest 1 (listRefusals s o f list) (omega arith) refl
 
 -- The groups of the list call that say nothing of the faces, and that of the faces.
 pub record ListGroups (s : Stock) (o : Order) (f : Faces) (list : List ℕ) : Type 0 where
@@ -102,6 +96,23 @@ module _ (s : Stock) (o : Order) (f : Faces) (list : List ℕ) where
   pub list-answer-code : listAnswer s o f list .code ≡ listCode s o f list
   unfolding listAnswer
   list-answer-code = if-code (λ (r : Listing). r .code) (listCode s o f list) _ _ refl refl
+
+  pub listed-code : {a : Listing} {x : List ℕ} → ListedAs s o f list a x → a .code ≡ listCode s o f list
+  listed-code e = ap (λ (r : Listing). r .code) (e .answered) ∙ list-answer-code
+
+-- Where the call is done, it is done with any other faces that are passed.
+pub other-faces-done : (s : Stock) (o : Order) (f g : Faces) (list : List ℕ) → listCode s o f list ≡ 0 → Passed (faceRefusals (s .k) g)
+    → listCode s o g list ≡ 0
+other-faces-done s o f g list e p =
+    let w = list-groups s o f list e in
+    groups-listed s o g list (record {
+      shape = w .shape;
+      order-room = w .order-room;
+      list-room = w .list-room;
+      coordinates = w .coordinates;
+      faces = p;
+      tree = w .tree;
+    })
 
 module _ (s : Stock) (o q : Order) (f : Faces) (list buffer : List ℕ) (slots : shelfRun s o ≡ shelfRun s q)
     (rooms : ltb (length list) (slotsOf s) ≡ ltb (length buffer) (slotsOf s)) where

@@ -28,7 +28,6 @@ use Rattle.theory.specs.Tested.{TestedPoints, TestedFaces}
 use Rattle.theory.specs.FirstInside.{up-none, count-take-le}
 use Rattle.theory.specs.BoxFuel.{boxes-length}
 use Rattle.theory.specs.FirstRefusal.{FirstHeld, noZero, first-held, passed-parts}
-use Rattle.theory.specs.FirstRefusalIsLowest.{Lowest, risesFrom, first-lowest}
 use Rattle.theory.specs.RefusalsPassed.{faces-passed, tree-passed}
 use Rattle.theory.specs.BuildCall.{build-tests-passed}
 use Rattle.theory.specs.CheckCall.{room-same}
@@ -41,15 +40,10 @@ pub record ScreenPassed (s : Stock) (o : Order) (f : Faces) : Type 0 where
   pub shelf : isShelf s o ≡ true
 
 module _ (s : Stock) (o : Order) (f : Faces) where
-  -- "Refusals: 1 to 9 as there": the first in the order of testing; and 0 where none holds.
+  -- "Refusals: 1 to 9 as there", and 11 "tested after 8": the first in the order of testing; and 0 where none holds.
   pub screen-first : FirstHeld (screenRefusals s o f) (screenCode s o f)
   unfolding noZero screenCode
   screen-first = first-held (screenRefusals s o f) refl
-
-  -- The numbers rise, so the first is the lowest.
-  pub screen-lowest : Lowest (screenRefusals s o f) (screenCode s o f)
-  unfolding risesFrom screenCode
-  screen-lowest = first-lowest 1 (screenRefusals s o f) (omega arith) refl
 
   pub screen-passed : screenCode s o f ≡ 0 → ScreenPassed s o f
   screen-passed e =

@@ -36,13 +36,15 @@ pub record TestedPoints (s : Stock) : Type 0 where
 pub coordinate-place : (k n : ℕ) (points : List ℤ) → length points ≡ k * n → {p d : ℕ} → p < n → d < k → p * k + d < length points
 coordinate-place k n points size l m = omega (arith, mul-le-mul-right k l, mul-comm k n)
 
--- The faces, whose 6, 7 and 8 were tested.
+-- The faces, whose 6, 7, 8 and 11 were tested.
 pub record TestedFaces (k : ℕ) (f : Faces) : Type 0 where
   pub many : f .h ≤ 32
   pub normals-size : length (f .normals) ≡ k * f .h
   pub offsets-size : length (f .offsets) ≡ f .h
   pub components : (i : ℕ) → i < length (f .normals) → Between (negsuc 32766) (getD (f .normals) i (pos 0)) (pos 32767)
   pub offsets-range : (i : ℕ) → i < length (f .offsets) → Between (negsuc 8589934591) (getD (f .offsets) i (pos 0)) (pos 8589934592)
+  pub marks-size : length (f .marks) ≡ f .h
+  pub marks-range : (i : ℕ) → i < length (f .marks) → getD (f .marks) i 0 ≤ 1
 
 -- A range test passed by a whole list, item by item.
 pub within-each : (least greatest : ℤ) (xs : List ℤ) → every (within least greatest) xs ≡ true

@@ -29,13 +29,14 @@ pub fn walk(
     order: &[u32],
     normals: &[i32],
     offsets: &[i64],
+    marks: &[u8],
     rows: CornerRows,
     list: &mut [u32],
 ) -> Tally
     requires { ⌜ Rooted k (now points) (now order) (boxOf rows) ⌝ }
-    requires { ⌜ KnownFaces k (facesOf (now normals) (now offsets)) ⌝ }
+    requires { ⌜ KnownFaces k (facesOf (now normals) (now offsets) (now marks)) ⌝ }
     requires { ⌜ length (now list) ≡ length (now order) ⌝ }
-    ensures { λ r. ⌜ ShelfWalked (region k (facesOf (now (normals .entry)) (now (offsets .entry)))) (coord k (now (points .entry)))
+    ensures { λ r. ⌜ ShelfWalked (region k (facesOf (now (normals .entry)) (now (offsets .entry)) (now (marks .entry)))) (coord k (now (points .entry)))
         (now (order .entry)) (now (list .exit)) (r .inside) (r .visits) ⌝ }
 {
     let slots = order.len();
@@ -57,6 +58,7 @@ pub fn walk(
         order,
         normals,
         offsets,
+        marks,
         root,
         &live,
         h,

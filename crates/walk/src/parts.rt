@@ -28,14 +28,15 @@ pub fn branch(
     order: &[u32],
     normals: &[i32],
     offsets: &[i64],
+    marks: &[u8],
     run: Run,
     live: &[u8; 32],
     count: usize,
     list: &mut [u32],
     tally: Tally,
 ) -> Tally
-    requires { ⌜ BranchAsks k (now points) (now order) (facesOf (now normals) (now offsets)) run (now live) count (now list) tally ⌝ }
-    ensures { λ r. ⌜ BranchDoes k (now (points .entry)) (now (order .entry)) (facesOf (now (normals .entry)) (now (offsets .entry))) run (now (list .entry)) (now (list .exit)) tally r ⌝ }
+    requires { ⌜ BranchAsks k (now points) (now order) (facesOf (now normals) (now offsets) (now marks)) run (now live) count (now list) tally ⌝ }
+    ensures { λ r. ⌜ BranchDoes k (now (points .entry)) (now (order .entry)) (facesOf (now (normals .entry)) (now (offsets .entry)) (now (marks .entry))) run (now (list .entry)) (now (list .exit)) tally r ⌝ }
 {
     let a = run.start;
     let c = run.length;
@@ -43,7 +44,7 @@ pub fn branch(
         return tally;
     }
     let mut next = [0u8; 32];
-    let judged = judge(k, run.rows, normals, offsets, live, count, &mut next);
+    let judged = judge(k, run.rows, normals, offsets, marks, live, count, &mut next);
     let e = a + c;
     match judged {
         Judgement::Below(_) => {
@@ -63,6 +64,7 @@ pub fn branch(
                 order,
                 normals,
                 offsets,
+                marks,
                 run,
                 &next,
                 left,
@@ -81,21 +83,22 @@ fn node(
     order: &[u32],
     normals: &[i32],
     offsets: &[i64],
+    marks: &[u8],
     run: Run,
     live: &[u8; 32],
     count: usize,
     list: &mut [u32],
     mut tally: Tally,
 ) -> Tally
-    requires { ⌜ BranchAsks k (now points) (now order) (facesOf (now normals) (now offsets)) run (now live) count (now list) tally ⌝ }
+    requires { ⌜ BranchAsks k (now points) (now order) (facesOf (now normals) (now offsets) (now marks)) run (now live) count (now list) tally ⌝ }
     requires { ⌜ 0 < run .length ⌝ }
-    requires { ⌜ isOpen (region k (facesOf (now normals) (now offsets))) (boxOf (run .rows)) ≡ true ⌝ }
-    ensures { λ r. ⌜ BranchDoes k (now (points .entry)) (now (order .entry)) (facesOf (now (normals .entry)) (now (offsets .entry))) run (now (list .entry)) (now (list .exit)) tally r ⌝ }
+    requires { ⌜ isOpen (region k (facesOf (now normals) (now offsets) (now marks))) (boxOf (run .rows)) ≡ true ⌝ }
+    ensures { λ r. ⌜ BranchDoes k (now (points .entry)) (now (order .entry)) (facesOf (now (normals .entry)) (now (offsets .entry)) (now (marks .entry))) run (now (list .entry)) (now (list .exit)) tally r ⌝ }
 {
     let middle = run.start + run.length / 2;
     let p = order[middle];
     let x = point_at(k, points, p as usize);
-    let inside = inside_live(k, x, normals, offsets, live, count);
+    let inside = inside_live(k, x, normals, offsets, marks, live, count);
     tally.visits += 1;
     if run.length == 1 {
         tally.inside = place(p, inside, list, middle, tally.inside);
@@ -111,6 +114,7 @@ fn node(
         order,
         normals,
         offsets,
+        marks,
         left,
         live,
         count,
@@ -125,6 +129,7 @@ fn node(
         order,
         normals,
         offsets,
+        marks,
         right,
         live,
         count,

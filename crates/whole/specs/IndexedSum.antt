@@ -6,13 +6,13 @@ use native.Mathlib.Nat.{not-suc-le-zero, mul-le-mul-left}
 use native.Mathlib.Decide.{ℕ-discrete}
 use native.Mathlib.Numerals.{add-one}
 use native.Mathlib.Omega.{arith}
-use lib.IntN.{ℤ, pos, natAbs, _+ℤ_, _*ℤ_}
+use lib.IntN.{ℤ, pos, negℤ, natAbs, _+ℤ_, _*ℤ_}
 use lib.Signed.{_≤ℤ_}
 use lib.Dec.{T, ltb}
 use mir.Syntax.{Width}
 use mir.Val.{SFits, hbits}
 use Rattle.whole.specs.Parts.{ints, sum-parts}
-use Rattle.whole.specs.Sums.{add-mono, add-zero, zero-add}
+use Rattle.whole.specs.Sums.{add-mono, add-zero, zero-add, neg-sum}
 use Rattle.whole.specs.Products.{mul-zero, mul-sum}
 use Rattle.whole.specs.Magnitudes.{abs-sum, abs-mul}
 use Rattle.whole.specs.Fits.{fits-abs-le}
@@ -71,6 +71,12 @@ sum-add (suc k) f g = omega (
   sum-parts (sumTo k f +ℤ f k) (sumTo k g +ℤ g k),
   sum-parts (sumTo k (λ d. f d +ℤ g d)) (f k +ℤ g k),
 )
+
+-- where every term is negated, the sum is
+pub sum-neg : (k : ℕ) (f : ℕ → ℤ) → sumTo k (λ d. negℤ (f d)) ≡ negℤ (sumTo k f)
+unfolding sumTo
+sum-neg zero f = refl
+sum-neg (suc k) f = rw (sum-neg k f) (sym (neg-sum (sumTo k f) (f k)))
 
 -- a factor of every term is a factor of the sum
 pub sum-scale : (k : ℕ) (n : ℤ) (f : ℕ → ℤ) → sumTo k (λ d. n *ℤ f d) ≡ n *ℤ sumTo k f

@@ -1,5 +1,5 @@
 -- Products of whole numbers, and how the order goes with them.
-use mathlib.Core.Path.{_≡_, ap}
+use mathlib.Core.Path.{_≡_, ap, _∙_}
 use Prim.Native.Nat.{ℕ, zero, suc, _*_}
 use native.Mathlib.Nat.{mul-le-mul-left}
 use lib.IntN.{ℤ, pos, negsuc, negℤ, _+ℤ_, _-ℤ_, _*ℤ_}
@@ -44,6 +44,9 @@ mul-neg a b = omega (
   neg-up (a *ℤ b),
   neg-dn (a *ℤ b),
 )
+
+pub neg-mul : (a b : ℤ) → negℤ a *ℤ b ≡ negℤ (a *ℤ b)
+neg-mul a b = mul-comm (negℤ a) b ∙ mul-neg b a ∙ ap negℤ (mul-comm b a)
 
 -- a factor goes into a sum
 pub mul-sum : (a b c : ℤ) → a *ℤ (b +ℤ c) ≡ a *ℤ b +ℤ a *ℤ c

@@ -1,8 +1,9 @@
 -- Sums and differences of whole numbers, and how the order goes with them.
-use mathlib.Core.Path.{_≡_}
+use mathlib.Core.Path.{_≡_, refl}
+use mathlib.Core.Bool.{Bool, true, false, not}
 use lib.IntN.{ℤ, pos, negℤ, _+ℤ_, _-ℤ_}
-use lib.Signed.{_≤ℤ_}
-use Rattle.whole.specs.Parts.{ints, sum-parts, dif-parts, neg-up, neg-dn}
+use lib.Signed.{leZ, ltZ, _≤ℤ_}
+use Rattle.whole.specs.Parts.{ints, flags, sum-parts, dif-parts, neg-up, neg-dn}
 
 pub add-comm : (a b : ℤ) → a +ℤ b ≡ b +ℤ a
 add-comm a b = omega (ints, sum-parts a b, sum-parts b a)
@@ -34,6 +35,34 @@ neg-neg a = omega (ints, neg-up a, neg-dn a, neg-up (negℤ a), neg-dn (negℤ a
 
 pub neg-le-neg : {a b : ℤ} → a ≤ℤ b → negℤ b ≤ℤ negℤ a
 neg-le-neg {a} {b} h = omega (ints, neg-up a, neg-dn a, neg-up b, neg-dn b)
+
+-- what is tested of two numbers is tested of the negated ones the other way round
+pub neg-leZ : (a b : ℤ) → leZ (negℤ a) (negℤ b) ≡ not (ltZ a b)
+neg-leZ a b = go (ltZ a b) refl
+  where
+    go : (t : Bool) → ltZ a b ≡ t → leZ (negℤ a) (negℤ b) ≡ not t
+    go true e = omega (flags, neg-up a, neg-dn a, neg-up b, neg-dn b)
+    go false e = omega (flags, neg-up a, neg-dn a, neg-up b, neg-dn b)
+
+pub neg-ltZ : (a b : ℤ) → ltZ (negℤ a) (negℤ b) ≡ not (leZ a b)
+neg-ltZ a b = go (leZ a b) refl
+  where
+    go : (t : Bool) → leZ a b ≡ t → ltZ (negℤ a) (negℤ b) ≡ not t
+    go true e = omega (flags, neg-up a, neg-dn a, neg-up b, neg-dn b)
+    go false e = omega (flags, neg-up a, neg-dn a, neg-up b, neg-dn b)
+
+pub neg-sum : (a b : ℤ) → negℤ (a +ℤ b) ≡ negℤ a +ℤ negℤ b
+neg-sum a b = omega (
+  ints,
+  sum-parts a b,
+  sum-parts (negℤ a) (negℤ b),
+  neg-up a,
+  neg-dn a,
+  neg-up b,
+  neg-dn b,
+  neg-up (a +ℤ b),
+  neg-dn (a +ℤ b),
+)
 
 pub add-mono : {a b c d : ℤ} → a ≤ℤ b → c ≤ℤ d → (a +ℤ c) ≤ℤ (b +ℤ d)
 add-mono {a} {b} {c} {d} h k = omega (ints, sum-parts a c, sum-parts b d)

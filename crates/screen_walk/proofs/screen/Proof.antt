@@ -9,12 +9,12 @@ all-faces-requires c κs = search needs
 
 branch-requires : tie.Need-branch-requires
 branch-requires c κs =
-    let p = c .before .before .before .pre in
+    let p = c .before .before .before .before .pre in
     screenable-root (p .0) (p .1) (c .before .all-faces .ensures)
 
 returns : tie.Need-returns
 returns c =
-    let p = c .before .before .before .before .pre in
+    let p = c .before .before .before .before .before .pre in
     shelf-screened (p .0 .alike) (c .branch .ensures)
 
 pub screen-spec : {M : Type 1} → statement M

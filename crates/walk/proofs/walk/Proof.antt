@@ -9,7 +9,7 @@ all-faces-requires c κs = search needs
 
 branch-requires : tie.Need-branch-requires
 branch-requires c κs =
-    let p = c .before .before .before .before .before .pre in
+    let p = c .before .before .before .before .before .before .pre in
     walkable-root (p .0) (p .1 .0) (c .before .before .all-faces .ensures) (p .1 .1)
 
 same-length : tie.Need-same-length
@@ -17,7 +17,7 @@ same-length c = search needs
 
 returns : tie.Need-returns
 returns c =
-    let p = c .before .before .before .before .before .before .before .before .pre in
+    let p = c .before .before .before .before .before .before .before .before .before .pre in
     shelf-walked (p .0 .alike) (p .1 .1) (c .before .before .branch .ensures)
 
 pub walk-spec : {M : Type 1} → statement M

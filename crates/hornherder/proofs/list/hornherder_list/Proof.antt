@@ -13,19 +13,19 @@ use Rattle.hornherder.proofs.list.hornherder_list.Statement.{statement}
 use Rattle.hornherder.proofs.list.hornherder_list.Tie as tie
 
 -- What 1 to 9 have tested.
-passed : (c : tie.Else1) → let a = c .before .before .before .before .before .args in
-    ListPassed (stock (a .k) (a .n) (a .points .now)) (orderOf (a .order .now)) (faces (a .h) (a .normals .now) (a .offsets .now)) (a .list .now)
+passed : (c : tie.Else1) → let a = c .before .before .before .before .before .before .args in
+    ListPassed (stock (a .k) (a .n) (a .points .now)) (orderOf (a .order .now)) (faces (a .h) (a .normals .now) (a .offsets .now) (a .marks .now)) (a .list .now)
 passed c = list-tested _ _ _ _ (c .before .list-refusal .ensures) (c .if1 .left)
 
 -- The walk's part of the order is its first n slots.
-whole : (c : tie.Else1) → let n = c .before .before .before .before .before .args .n in n - 0 ≡ n
+whole : (c : tie.Else1) → let n = c .before .before .before .before .before .before .args .n in n - 0 ≡ n
 whole c = omega arith
 
-slots : (c : tie.Else1) → let a = c .before .before .before .before .before .args in length (take (a .n) (a .order .now)) ≡ a .n
+slots : (c : tie.Else1) → let a = c .before .before .before .before .before .before .args in length (take (a .n) (a .order .now)) ≡ a .n
 slots c = length-take-le _ _ (passed c .room)
 
 -- No count is over n, which fits.
-few : (c : tie.After-walk) → let a = c .before .before .before .before .before .before .before .before .before .args in let t = c .walk .result in
+few : (c : tie.After-walk) → let a = c .before .before .before .before .before .before .before .before .before .before .args in let t = c .walk .result in
     AtMost (a .n) (t .inside) (a .n - t .inside) (t .visits) × (a .n ≤ 65535)
 few c =
     let e = c .before .before .before .before in
@@ -69,17 +69,17 @@ walk-requires c κs =
       ),
     )
 
-cast-t21 : tie.Need-cast-t21
-cast-t21 c = let w = few (c .before .before .before) in omega (arith, w .0 .inside, w .1)
-
-sub-t16 : tie.Need-sub-t16
-sub-t16 c = let w = few (c .before .before .before .before) in omega (arith, w .0 .inside)
-
 cast-t22 : tie.Need-cast-t22
-cast-t22 c = let w = few (c .before .before .before .before) in omega (arith, w .0 .outside, w .1)
+cast-t22 c = let w = few (c .before .before .before) in omega (arith, w .0 .inside, w .1)
+
+sub-t17 : tie.Need-sub-t17
+sub-t17 c = let w = few (c .before .before .before .before) in omega (arith, w .0 .inside)
 
 cast-t23 : tie.Need-cast-t23
-cast-t23 c = let w = few (c .before .before .before .before .before) in omega (arith, w .0 .visited, w .1)
+cast-t23 c = let w = few (c .before .before .before .before) in omega (arith, w .0 .outside, w .1)
+
+cast-t24 : tie.Need-cast-t24
+cast-t24 c = let w = few (c .before .before .before .before .before) in omega (arith, w .0 .visited, w .1)
 
 same-length-2 : tie.Need-same-length-2
 same-length-2 c = search needs
@@ -104,9 +104,9 @@ hornherder-list-spec =
     slice-relend-prefix-walk
     slice-aggregate-walk
     walk-requires
-    cast-t21
-    sub-t16
     cast-t22
+    sub-t17
     cast-t23
+    cast-t24
     same-length-2
     returns-2)

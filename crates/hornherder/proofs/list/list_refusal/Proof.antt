@@ -13,7 +13,7 @@ use Rattle.hornherder.proofs.list.list_refusal.Statement.{statement}
 use Rattle.hornherder.proofs.list.list_refusal.Tie as tie
 
 -- Past the stock's shape and the room for the order.
-past-2 : (c : tie.Else2) {rs : List Refusal} {r : ℕ} → First rs r → let a = c .before .before .before .before .before .before .args in
+past-2 : (c : tie.Else2) {rs : List Refusal} {r : ℕ} → First rs r → let a = c .before .before .before .before .before .before .before .args in
     First (stockRefusals (stock (a .k) (a .n) (a .points .now)) ++ roomRefusals (a .n) (length (a .order .now)) ++ rs) r
 unfolding noZero
 past-2 c rest =
@@ -22,7 +22,7 @@ past-2 c rest =
 
 -- And past the room for the list and the coordinates.
 past-4 : (c : tie.Else4) {rs : List Refusal} {r : ℕ} → First rs r
-    → let a = c .before .before .before .before .before .before .before .before .before .before .args in
+    → let a = c .before .before .before .before .before .before .before .before .before .before .before .args in
     First (stockRefusals (stock (a .k) (a .n) (a .points .now)) ++ roomRefusals (a .n) (length (a .order .now)) ++ roomRefusals (a .n) (length (a .list .now)) ++ coordinateRefusals (a .points .now) ++ rs) r
 unfolding noZero
 past-4 c rest =
@@ -31,7 +31,7 @@ past-4 c rest =
     (first-goes-on refl (c .before .coordinate-refusal .ensures) (c .if4 .left) rest))
 
 -- The stock was tested.
-tested : (c : tie.Else4) → let a = c .before .before .before .before .before .before .before .before .before .before .args in
+tested : (c : tie.Else4) → let a = c .before .before .before .before .before .before .before .before .before .before .before .args in
     TestedPoints (stock (a .k) (a .n) (a .points .now))
 unfolding noZero
 tested c =

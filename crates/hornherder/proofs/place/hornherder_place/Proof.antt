@@ -15,7 +15,7 @@ returns : tie.Need-returns
 returns c = place-refused _ _ _ (c .before .place-refusal .ensures) (c .if1 .taken)
 
 -- What was tested.
-passed : (c : tie.Else1) → let a = c .before .before .args in PlacePassed (a .k) (a .point .now) (faces (a .h) (a .normals .now) (a .offsets .now))
+passed : (c : tie.Else1) → let a = c .before .before .before .args in PlacePassed (a .k) (a .point .now) (faces (a .h) (a .normals .now) (a .offsets .now) (a .marks .now))
 passed c = place-tested _ _ _ (c .before .place-refusal .ensures) (c .if1 .left)
 
 point-at-requires : tie.Need-point-at-requires

@@ -10,6 +10,7 @@ use mir.Val.{SFits, toZ}
 use mir.Facts.{toZ-ofZ}
 use Rattle.whole.specs.Fits.{sfits-mag}
 use Rattle.terms.specs.Tests.{every}
+use Rattle.terms.specs.Points.{within}
 use Rattle.theory.specs.Flags.{not-true, not-false}
 use Rattle.hornherder.specs.Ranges.{Through, through-passed, through-failed, through-all}
 use Rattle.hornherder.proofs.ranges.all_within_wide.Statement.{statement}
@@ -17,7 +18,7 @@ use Rattle.hornherder.proofs.ranges.all_within_wide.Tie as tie
 
 abbrev Inv-loop : tie.InvT-loop
 Inv-loop numbers least greatest all₀ i₀ i-end all i =
-    (i ≤ length numbers) × (i-end ≡ length numbers) × Through numbers (toZ w64 least) (toZ w64 greatest) i all
+    (i ≤ length numbers) × (i-end ≡ length numbers) × Through (within (toZ w64 least) (toZ w64 greatest)) numbers i all
 
 abbrev μ-loop : tie.MeasureT-loop
 μ-loop numbers least greatest all₀ i₀ i-end all i = length numbers - i
@@ -50,8 +51,8 @@ loop-again c =
       omega arith,
       i .1,
       ⊎-elim
-          (λ w. rw (w .1) (through-failed (i .2) (omega arith) (sym e ∙ not-true _ (w .0 .taken))))
-          (λ w. rw (w .1) (through-passed (i .2) (omega arith) (sym e ∙ not-false _ (w .0 .left))))
+          (λ w. rw (w .1) (through-failed (pos 0) (i .2) (omega arith) (sym e ∙ not-true _ (w .0 .taken))))
+          (λ w. rw (w .1) (through-passed (pos 0) (i .2) (omega arith) (sym e ∙ not-false _ (w .0 .left))))
           (c .if1 .came),
     )
 

@@ -14,7 +14,8 @@ returns c = first-stops _ (c .before .face-count-refusal .ensures) (c .if1 .take
 
 face-length-refusal-requires : tie.Need-face-length-refusal-requires
 unfolding noZero
-face-length-refusal-requires c κs = (c .before .before .pre, face-count-passed _ (first-passed refl (c .before .face-count-refusal .ensures) (c .if1 .left)))
+face-length-refusal-requires c κs =
+    (c .before .before .before .pre, face-count-passed _ (first-passed refl (c .before .face-count-refusal .ensures) (c .if1 .left)))
 
 returns-2 : tie.Need-returns-2
 unfolding noZero
@@ -33,9 +34,39 @@ unfolding noZero
 returns-3 c =
     first-goes-on
     refl
-    (c .before .before .before .before .face-count-refusal .ensures)
-    (c .before .before .before .if1 .left)
-    (first-goes-on refl (c .before .before .face-length-refusal .ensures) (c .before .if2 .left) (c .face-range-refusal .ensures))
+    (c .before .before .before .before .before .face-count-refusal .ensures)
+    (c .before .before .before .before .if1 .left)
+    (first-goes-on
+    refl
+    (c .before .before .before .face-length-refusal .ensures)
+    (c .before .before .if2 .left)
+    (first-stops _ (c .before .face-range-refusal .ensures) (c .if3 .taken)))
+
+mark-refusal-requires : tie.Need-mark-refusal-requires
+mark-refusal-requires c κs = tt
+
+returns-4 : tie.Need-returns-4
+unfolding noZero
+returns-4 c =
+    first-goes-on
+    refl
+    (c .before .before .before .before .before .before .face-count-refusal .ensures)
+    (c .before .before .before .before .before .if1 .left)
+    (first-goes-on
+    refl
+    (c .before .before .before .before .face-length-refusal .ensures)
+    (c .before .before .before .if2 .left)
+    (first-goes-on refl (c .before .before .face-range-refusal .ensures) (c .before .if3 .left) (c .mark-refusal .ensures)))
 
 pub face-refusal-spec : {M : Type 1} → statement M
-face-refusal-spec = tie.close (tie.spec face-count-refusal-requires returns face-length-refusal-requires returns-2 face-range-refusal-requires returns-3)
+face-refusal-spec =
+    tie.close
+    (tie.spec
+    face-count-refusal-requires
+    returns
+    face-length-refusal-requires
+    returns-2
+    face-range-refusal-requires
+    returns-3
+    mark-refusal-requires
+    returns-4)

@@ -16,17 +16,17 @@ use Rattle.hornherder.proofs.screen.hornherder_screen.Statement.{statem
 use Rattle.hornherder.proofs.screen.hornherder_screen.Tie as tie
 
 -- What 1 to 9 have tested.
-passed : (c : tie.Else1) → let a = c .before .before .before .args in
-    ScreenPassed (stock (a .k) (a .n) (a .points .now)) (orderOf (a .order .now)) (faces (a .h) (a .normals .now) (a .offsets .now))
+passed : (c : tie.Else1) → let a = c .before .before .before .before .args in
+    ScreenPassed (stock (a .k) (a .n) (a .points .now)) (orderOf (a .order .now)) (faces (a .h) (a .normals .now) (a .offsets .now) (a .marks .now))
 passed c = screen-tested _ _ _ (c .before .screen-refusal .ensures) (c .if1 .left)
 
 -- The screen's part of the order is its first n slots.
-whole : (c : tie.Else1) → let n = c .before .before .before .args .n in n - 0 ≡ n
+whole : (c : tie.Else1) → let n = c .before .before .before .before .args .n in n - 0 ≡ n
 whole c = omega arith
 
 -- What was found in the first n slots.
-found : (c : tie.After-screen) → let a = c .before .before .before .before .before .before .args in let r = c .screen .result in
-    ShelfScreened (region (a .k) (faces (a .h) (a .normals .now) (a .offsets .now))) (coord (a .k) (a .points .now)) (take (a .n) (a .order .now))
+found : (c : tie.After-screen) → let a = c .before .before .before .before .before .before .before .args in let r = c .screen .result in
+    ShelfScreened (region (a .k) (faces (a .h) (a .normals .now) (a .offsets .now) (a .marks .now))) (coord (a .k) (a .points .now)) (take (a .n) (a .order .now))
     (r .found) (r .number) (r .visits)
 found c = let e = c .before .before .before in rw (whole e, passed e .faced .offsets-size) at (c .screen .ensures)
 
@@ -34,7 +34,7 @@ found c = let e = c .before .before .before in rw (whole e, passed e .faced .off
 few : (c : tie.After-screen) → c .screen .result .visits ≤ 65535
 few c =
     let e = c .before .before .before in
-    let a = e .before .before .before .args in
+    let a = e .before .before .before .before .args in
     let slots = length-take-le (a .n) (a .order .now) (passed e .room) in
     omega (arith, screen-visits-most (found c), slots, passed e .tested .many)
 
@@ -64,8 +64,8 @@ screen-requires c κs =
       rw (p .faced .offsets-size) (record { few = p .tested .few; tested = p .faced }),
     )
 
-cast-t16 : tie.Need-cast-t16
-cast-t16 c = omega (arith, few (c .before .before))
+cast-t17 : tie.Need-cast-t17
+cast-t17 c = omega (arith, few (c .before .before))
 
 returns-2 : tie.Need-returns-2
 returns-2 c =
@@ -73,8 +73,8 @@ returns-2 c =
     let e = w .before .before .before in
     screen-found _ _ _ (e .before .screen-refusal .ensures) (e .if1 .left) (rw (c .before .if2 .taken) at (found w))
 
-cast-t17 : tie.Need-cast-t17
-cast-t17 c = omega (arith, few (c .before .before))
+cast-t18 : tie.Need-cast-t18
+cast-t18 c = omega (arith, few (c .before .before))
 
 returns-3 : tie.Need-returns-3
 returns-3 c =
@@ -93,7 +93,7 @@ hornherder-screen-spec =
     part-screen-start
     part-screen-end
     screen-requires
-    cast-t16
-    returns-2
     cast-t17
+    returns-2
+    cast-t18
     returns-3)

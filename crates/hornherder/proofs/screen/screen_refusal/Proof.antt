@@ -9,7 +9,7 @@ use Rattle.hornherder.proofs.screen.screen_refusal.Statement.{statement
 use Rattle.hornherder.proofs.screen.screen_refusal.Tie as tie
 
 -- What 1 to 5 have tested.
-tested : (c : tie.Else1) → let a = c .before .before .before .args in BuildPassed (stock (a .k) (a .n) (a .points .now)) (orderOf (a .order .now))
+tested : (c : tie.Else1) → let a = c .before .before .before .before .args in BuildPassed (stock (a .k) (a .n) (a .points .now)) (orderOf (a .order .now))
 tested c = build-tested _ _ (c .before .build-refusal .ensures) (c .if1 .left)
 
 build-refusal-requires : tie.Need-build-refusal-requires

@@ -1,50 +1,37 @@
 -- `wholly_below` meets its contract: the opposite corner is asked, and `above` says the rest.
-use mathlib.Core.Path.{_≡_, sym, ap, _∙_}
+use mathlib.Core.Path.{_≡_, ap, _∙_}
 use mathlib.Core.Bool.{not}
 use native.Mathlib.Omega.{arith}
 use borrow.Author.Needs.{sfits-of, needs}
 use mir.Facts.{toZ-ofZ}
-use Rattle.whole.specs.Fits.{sfits-mag}
 use Rattle.terms.specs.Lent.{facesOf}
 use Rattle.terms.specs.Box.{boxOf}
 use Rattle.terms.specs.Region.{region, reach, aboveAt, along}
-use Rattle.region.specs.Ranges.{face-components}
+use Rattle.region.specs.Ranges.{face-components, face-marked}
 use Rattle.region.proofs.boxes.wholly_below.Statement.{statement}
 use Rattle.region.proofs.boxes.wholly_below.Tie as tie
 
 mul-corner-sum : tie.Need-mul-corner-sum
-mul-corner-sum c = omega (arith, face-components (c .before .before .pre .1))
+mul-corner-sum c = omega (arith, face-components (c .before .before .before .pre .1))
 
 corner-sum-requires : tie.Need-corner-sum-requires
 corner-sum-requires c κs = search (needs, face-components)
 
-mul-above : tie.Need-mul-above
-mul-above c = search needs
-
-shared-slice-copy-out-above : tie.Need-shared-slice-copy-out-above
-shared-slice-copy-out-above c = search needs
-
 above-requires : tie.Need-above-requires
-above-requires c κs = search needs
+above-requires c κs = face-marked (c .before .before .before .before .pre .1)
 
 returns : tie.Need-returns
 returns c =
-    let s = c .before .before .before .before .before in
-    let g = region (s .args .k) (facesOf (s .args .normals .now) (s .args .offsets .now)) in
-    let reached : c .before .before .corner-sum .result ≡ reach g (s .args .i) (along g (s .args .i) (boxOf (s .args .rows))) =
-    c .before .before .corner-sum .ensures in
+    let s = c .before .before .before .before in
+    let g = region (s .before .args .k) (facesOf (s .before .args .normals .now) (s .before .args .offsets .now) (s .before .args .marks .now)) in
+    let reached : c .before .corner-sum .result ≡ reach g (s .before .args .i) (along g (s .before .args .i) (boxOf (s .before .args .rows))) =
+    c .before .corner-sum .ensures in
     ap
     not
-    (c .above .ensures g (s .args .i) (sym (toZ-ofZ (sfits-mag (c .before .above-arg .given))))
-    ∙ ap (aboveAt g (s .args .i)) (toZ-ofZ (sfits-of (c .before .before .corner-sum .ok)) ∙ reached))
+    (c .above .ensures (s .before .args .k) (s .before .args .normals .now)
+    ∙ ap (aboveAt g (s .before .args .i)) (toZ-ofZ (sfits-of (c .before .corner-sum .ok)) ∙ reached))
 
 pub wholly-below-spec : {M : Type 1} → statement M
 wholly-below-spec =
     tie.close
-    (tie.spec
-    mul-corner-sum
-    corner-sum-requires
-    mul-above
-    shared-slice-copy-out-above
-    above-requires
-    returns)
+    (tie.spec mul-corner-sum corner-sum-requires above-requires returns)

@@ -13,17 +13,17 @@ use Rattle.region.proofs.faces.inside_all.Statement.{statement}
 use Rattle.region.proofs.faces.inside_all.Tie as tie
 
 abbrev Inv-loop : tie.InvT-loop
-Inv-loop k x normals offsets i₀ h i =
-    (i ≤ h) × ((j : ℕ) → j < i → above (region k (facesOf normals offsets)) j (lone x) ≡ true)
+Inv-loop k x normals offsets marks i₀ h i =
+    (i ≤ h) × ((j : ℕ) → j < i → above (region k (facesOf normals offsets marks)) j (lone x) ≡ true)
 
 abbrev μ-loop : tie.MeasureT-loop
-μ-loop k x normals offsets i₀ h i = h - i
+μ-loop k x normals offsets marks i₀ h i = h - i
 
 loop-holds : tie.Need-loop-holds Inv-loop μ-loop
 loop-holds c = (omega arith, λ j l. absurd (omega arith))
 
 point-above-requires : tie.Need-point-above-requires Inv-loop μ-loop
-point-above-requires c κs = let s = c .before .before in (s .pre .0, record { all = s .pre .1; known = c .loop-test .taken })
+point-above-requires c κs = let s = c .before .before in (s .before .pre .0, record { all = s .before .pre .1; known = c .loop-test .taken })
 
 returns : tie.Need-returns Inv-loop μ-loop
 unfolding inside

@@ -13,39 +13,39 @@ use Rattle.region.proofs.judge.judge.Statement.{statement}
 use Rattle.region.proofs.judge.judge.Tie as tie
 
 abbrev Inv-loop : tie.InvT-loop
-Inv-loop k rows normals offsets live count next₀ left₀ t₀ next left t =
-    Judging (region k (facesOf normals offsets)) (boxOf rows) live count next left t
+Inv-loop k rows normals offsets marks live count next₀ left₀ t₀ next left t =
+    Judging (region k (facesOf normals offsets marks)) (boxOf rows) live count next left t
 
 abbrev μ-loop : tie.MeasureT-loop
-μ-loop k rows normals offsets live count next₀ left₀ t₀ next left t = count - t
+μ-loop k rows normals offsets marks live count next₀ left₀ t₀ next left t = count - t
 
 loop-holds : tie.Need-loop-holds Inv-loop μ-loop
-loop-holds c = judging-none _ _ _ _ _ (c .pre .1 .1 .1)
+loop-holds c = judging-none _ _ _ _ _ (c .before .pre .1 .1 .1)
 
 element-copy-out-f : tie.Need-element-copy-out-f Inv-loop μ-loop
 element-copy-out-f c = omega arith
 
 -- The face at hand is one of the faces.
 face-known : (c : tie.In-loop Inv-loop μ-loop)
-    → HasFace (c .before .before .args .k) (facesOf (c .before .before .args .normals .now) (c .before .before .args .offsets .now))
-    (getD (c .before .before .args .live .now) (c .before .loop .t) 0)
+    → HasFace (c .before .before .before .args .k) (facesOf (c .before .before .before .args .normals .now) (c .before .before .before .args .offsets .now) (c .before .before .before .args .marks .now))
+    (getD (c .before .before .before .args .live .now) (c .before .loop .t) 0)
 face-known c =
     let s = c .before .before in
-    record { all = s .pre .1 .0; known = s .pre .1 .1 .0 .live .each (c .before .loop .t) (c .loop-test .taken) }
+    record { all = s .before .pre .1 .0; known = s .before .pre .1 .1 .0 .live .each (c .before .loop .t) (c .loop-test .taken) }
 
 cast-i : tie.Need-cast-i Inv-loop μ-loop
-cast-i c = omega (arith, face-known (c .before) .known, c .before .before .before .pre .1 .0 .tested)
+cast-i c = omega (arith, face-known (c .before) .known, c .before .before .before .before .pre .1 .0 .tested)
 
 wholly-above-requires : tie.Need-wholly-above-requires Inv-loop μ-loop
-wholly-above-requires c κs = (c .before .before .before .pre .0, face-known (c .before))
+wholly-above-requires c κs = (c .before .before .before .before .pre .0, face-known (c .before))
 
 wholly-below-requires : tie.Need-wholly-below-requires Inv-loop μ-loop
-wholly-below-requires c κs = (c .before .before .before .before .before .pre .0, face-known (c .before .before .before))
+wholly-below-requires c κs = (c .before .before .before .before .before .before .pre .0, face-known (c .before .before .before))
 
 returns : tie.Need-returns Inv-loop μ-loop
 returns c =
     let b = c .before .before .before .before .before in
-    judging-cut (b .before .loop .inv) (b .before .before .pre .1 .1 .0) (b .loop-test .taken) (c .before .wholly-below .ensures) (c .if2 .taken)
+    judging-cut (b .before .loop .inv) (b .before .before .before .pre .1 .1 .0) (b .loop-test .taken) (c .before .wholly-below .ensures) (c .if2 .taken)
 
 element-write-next : tie.Need-element-write-next Inv-loop μ-loop
 element-write-next c = omega arith
@@ -63,7 +63,7 @@ loop-again : tie.Need-loop-again Inv-loop μ-loop
 loop-again c =
     let b = c .before .before .before in
     let w = b .before .loop .inv in
-    let v = b .before .before .pre .1 .1 .0 in
+    let v = b .before .before .before .pre .1 .1 .0 in
     let says = c .before .wholly-above .ensures in
     let above = c .before .wholly-above .result in
     ⊎-elim
@@ -74,12 +74,12 @@ loop-again c =
 returns-2 : tie.Need-returns-2 Inv-loop μ-loop
 returns-2 c =
     let b = c .before in
-    judging-done-above (b .before .loop .inv) (b .before .before .pre .1 .1 .0) (b .loop-test .left) (omega (arith, c .if3 .taken))
+    judging-done-above (b .before .loop .inv) (b .before .before .before .pre .1 .1 .0) (b .loop-test .left) (omega (arith, c .if3 .taken))
 
 returns-3 : tie.Need-returns-3 Inv-loop μ-loop
 returns-3 c =
     let b = c .before in
-    judging-done-open (b .before .loop .inv) (b .before .before .pre .1 .1 .0) (b .loop-test .left) (omega (arith, c .if3 .left))
+    judging-done-open (b .before .loop .inv) (b .before .before .before .pre .1 .1 .0) (b .loop-test .left) (omega (arith, c .if3 .left))
 
 pub judge-spec : {M : Type 1} → statement M
 judge-spec =

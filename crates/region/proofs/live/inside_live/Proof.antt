@@ -14,11 +14,11 @@ use Rattle.region.proofs.live.inside_live.Statement.{statement}
 use Rattle.region.proofs.live.inside_live.Tie as tie
 
 abbrev Inv-loop : tie.InvT-loop
-Inv-loop k x normals offsets live count t₀ t =
-    (t ≤ count) × ((s : ℕ) → s < t → above (region k (facesOf normals offsets)) (getD live s 0) (lone x) ≡ true)
+Inv-loop k x normals offsets marks live count t₀ t =
+    (t ≤ count) × ((s : ℕ) → s < t → above (region k (facesOf normals offsets marks)) (getD live s 0) (lone x) ≡ true)
 
 abbrev μ-loop : tie.MeasureT-loop
-μ-loop k x normals offsets live count t₀ t = count - t
+μ-loop k x normals offsets marks live count t₀ t = count - t
 
 loop-holds : tie.Need-loop-holds Inv-loop μ-loop
 loop-holds c = (omega arith, λ s l. absurd (omega arith))
@@ -29,12 +29,12 @@ element-copy-out-point-above c = omega arith
 cast-point-above : tie.Need-cast-point-above Inv-loop μ-loop
 cast-point-above c =
     let s = c .before .before .before in
-    omega (arith, s .pre .1 .1 .each (c .before .before .loop .t) (c .before .loop-test .taken), s .pre .1 .0 .tested)
+    omega (arith, s .before .pre .1 .1 .each (c .before .before .loop .t) (c .before .loop-test .taken), s .before .pre .1 .0 .tested)
 
 point-above-requires : tie.Need-point-above-requires Inv-loop μ-loop
 point-above-requires c κs =
     let s = c .before .before .before in
-    (s .pre .0, record { all = s .pre .1 .0; known = s .pre .1 .1 .each (c .before .before .loop .t) (c .before .loop-test .taken) })
+    (s .before .pre .0, record { all = s .before .pre .1 .0; known = s .before .pre .1 .1 .each (c .before .before .loop .t) (c .before .loop-test .taken) })
 
 returns : tie.Need-returns Inv-loop μ-loop
 returns c =

@@ -66,15 +66,24 @@ part-build-shelf-start-3 c = search needs
 part-build-shelf-end-3 : tie.Need-part-build-shelf-end-3
 part-build-shelf-end-3 c = omega (arith, said (c .before .before .before .before .before) .faces)
 
+sub-build-shelf-4 : tie.Need-sub-build-shelf-4
+sub-build-shelf-4 c = search needs
+
+part-build-shelf-start-4 : tie.Need-part-build-shelf-start-4
+part-build-shelf-start-4 c = search needs
+
+part-build-shelf-end-4 : tie.Need-part-build-shelf-end-4
+part-build-shelf-end-4 c = omega (arith, said (c .before .before .before .before .before .before .before) .faces)
+
 build-shelf-requires : tie.Need-build-shelf-requires
-build-shelf-requires c κs = omega (arith, said (c .before .before .before .before .before .before .before) .points)
+build-shelf-requires c κs = omega (arith, said (c .before .before .before .before .before .before .before .before .before) .points)
 
 same-length-2 : tie.Need-same-length-2
 same-length-2 c = search needs
 
 returns-2 : tie.Need-returns-2
 returns-2 c =
-    let no = c .before .before .before .before .before .before .before .before .before .before in
+    let no = c .before .before .before .before .before .before .before .before .before .before .before .before in
     answer-shelved (no .before .before .before .before .before .read .ensures) (no .if1 .left) (simp sub-zero at (c .before .before .build-shelf .ensures))
 
 pub answer-spec : {M : Type 1} → statement M
@@ -99,6 +108,9 @@ answer-spec =
     sub-build-shelf-3
     part-build-shelf-start-3
     part-build-shelf-end-3
+    sub-build-shelf-4
+    part-build-shelf-start-4
+    part-build-shelf-end-4
     build-shelf-requires
     same-length-2
     returns-2)

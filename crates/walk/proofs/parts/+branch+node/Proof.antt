@@ -39,24 +39,24 @@ use Rattle.walk.proofs.parts.+branch+node.{statement}
 use Rattle.walk.proofs.parts.+branch+node.Tie.{close}
 
 -- Twice the run's length.
-abbrev μ-node : Measures 6 node-kinds.ps ℕ
-μ-node κs a = a .1 .1 .1 .1 .1 .0 .length + a .1 .1 .1 .1 .1 .0 .length
+abbrev μ-node : Measures 7 node-kinds.ps ℕ
+μ-node κs a = a .1 .1 .1 .1 .1 .1 .0 .length + a .1 .1 .1 .1 .1 .1 .0 .length
 
-abbrev μ-branch : Measures 6 branch-kinds.ps ℕ
-μ-branch κs a = a .1 .1 .1 .1 .1 .0 .length + a .1 .1 .1 .1 .1 .0 .length + 1
+abbrev μ-branch : Measures 7 branch-kinds.ps ℕ
+μ-branch κs a = a .1 .1 .1 .1 .1 .1 .0 .length + a .1 .1 .1 .1 .1 .1 .0 .length + 1
 
 module _ (t : ℕ) where
-  abbrev branch-at : In 6 branch-kinds.ps
-  branch-at = and 6 branch-kinds.ps (is 6 branch-kinds.ps μ-branch t) branch.Pre
+  abbrev branch-at : In 7 branch-kinds.ps
+  branch-at = and 7 branch-kinds.ps (is 7 branch-kinds.ps μ-branch t) branch.Pre
 
-  abbrev branch-below : In 6 branch-kinds.ps
-  branch-below = and 6 branch-kinds.ps (falls 6 branch-kinds.ps _<_ μ-branch t) branch.Pre
+  abbrev branch-below : In 7 branch-kinds.ps
+  branch-below = and 7 branch-kinds.ps (falls 7 branch-kinds.ps _<_ μ-branch t) branch.Pre
 
-  abbrev node-at : In 6 node-kinds.ps
-  node-at = and 6 node-kinds.ps (is 6 node-kinds.ps μ-node t) node.Pre
+  abbrev node-at : In 7 node-kinds.ps
+  node-at = and 7 node-kinds.ps (is 7 node-kinds.ps μ-node t) node.Pre
 
-  abbrev node-below : In 6 node-kinds.ps
-  node-below = and 6 node-kinds.ps (falls 6 node-kinds.ps _<_ μ-node t) node.Pre
+  abbrev node-below : In 7 node-kinds.ps
+  node-below = and 7 node-kinds.ps (falls 7 node-kinds.ps _<_ μ-node t) node.Pre
 
   -- What each part's callees ask and tell.
   abbrev branch-calls : branch-lts.Claims
@@ -93,17 +93,17 @@ module _ (t : ℕ) where
 
   branch-returns : branch-lts.Need-returns branch-calls branch-at branch.Post
   branch-returns c =
-      let a = c .before .before .before .args in
-      branch-empty (a .k) (a .points .now) (a .order .now) (facesOf (a .normals .now) (a .offsets .now)) (a .run .start) (a .run .length) _ _ _ _ _ (c .if1 .taken)
+      let a = c .before .before .before .before .args in
+      branch-empty (a .k) (a .points .now) (a .order .now) (facesOf (a .normals .now) (a .offsets .now) (a .marks .now)) (a .run .start) (a .run .length) _ _ _ _ _ (c .if1 .taken)
 
   branch-judge-requires : branch-lts.Need-judge-requires branch-calls branch-at branch.Post
   branch-judge-requires c κs =
-      let w = c .before .before .before .before .pre .1 in
+      let w = c .before .before .before .before .before .pre .1 in
       let z = c .before .if1 .left in
       (w .boxed .ranges (omega arith), (w .faced .faces, (w .faced .lives, refl)))
 
   branch-add-e : branch-lts.Need-add-e branch-calls branch-at branch.Post
-  branch-add-e c = let w = c .before .before .before .before .before .pre .1 .standing in omega arith
+  branch-add-e c = let w = c .before .before .before .before .before .before .pre .1 .standing in omega arith
 
   branch-enum-told : branch-lts.Need-enum-told branch-calls branch-at branch.Post
   branch-enum-told c = c .match .keys1
@@ -118,19 +118,19 @@ module _ (t : ℕ) where
   branch-part-copy-outside-start c = omega arith
 
   branch-part-copy-outside-end : branch-lts.Need-part-copy-outside-end branch-calls branch-at branch.Post
-  branch-part-copy-outside-end c = let w = c .before .before .before .before .before .before .before .pre .1 .standing in omega arith
+  branch-part-copy-outside-end c = let w = c .before .before .before .before .before .before .before .before .pre .1 .standing in omega arith
 
   branch-copy-outside-requires : branch-lts.Need-copy-outside-requires branch-calls branch-at branch.Post
   branch-copy-outside-requires c κs =
       let s = c .before .before .before .before .before .before .before .before .before in
-      let w = s .pre .1 in
-      let l = lent-length (s .args .order .now) (s .args .run .start) (s .args .run .length) (w .standing .fits) in
+      let w = s .before .pre .1 in
+      let l = lent-length (s .before .args .order .now) (s .before .args .run .start) (s .before .args .run .length) (w .standing .fits) in
       (w .tallied .few, omega (arith, w .standing .fits, w .tallied .size))
 
   branch-returns-2 : branch-lts.Need-returns-2 branch-calls branch-at branch.Post
   branch-returns-2 c =
       let below = rw (c .before .before .before .before .before .enum-told .given .1) at (c .before .before .before .before .before .before .before .judge .ensures) in
-      branch-outside (c .before .before .before .before .before .before .before .before .before .before .before .before .pre .1) (judged-below below) (c .before .before .copy-outside .ensures)
+      branch-outside (c .before .before .before .before .before .before .before .before .before .before .before .before .before .pre .1) (judged-below below) (c .before .before .copy-outside .ensures)
 
   branch-same-length : branch-lts.Need-same-length branch-calls branch-at branch.Post
   branch-same-length c = branch-returns-2 c .listed .filled .size
@@ -148,22 +148,22 @@ module _ (t : ℕ) where
   branch-part-copy-inside-start c = omega arith
 
   branch-part-copy-inside-end : branch-lts.Need-part-copy-inside-end branch-calls branch-at branch.Post
-  branch-part-copy-inside-end c = let w = c .before .before .before .before .before .before .before .pre .1 .standing in omega arith
+  branch-part-copy-inside-end c = let w = c .before .before .before .before .before .before .before .before .pre .1 .standing in omega arith
 
   branch-copy-inside-requires : branch-lts.Need-copy-inside-requires branch-calls branch-at branch.Post
   branch-copy-inside-requires c κs =
       let s = c .before .before .before .before .before .before .before .before .before in
-      let w = s .pre .1 in
-      let l = lent-length (s .args .order .now) (s .args .run .start) (s .args .run .length) (w .standing .fits) in
+      let w = s .before .pre .1 in
+      let l = lent-length (s .before .args .order .now) (s .before .args .run .start) (s .before .args .run .length) (w .standing .fits) in
       omega (arith, w .standing .fits, w .tallied .few, w .tallied .size)
 
   branch-add-settled : branch-lts.Need-add-settled branch-calls branch-at branch.Post
-  branch-add-settled c = let w = c .before .before .before .before .before .before .before .before .before .before .before .before .before .pre .1 in omega (arith, w .standing .fits, w .tallied .few)
+  branch-add-settled c = let w = c .before .before .before .before .before .before .before .before .before .before .before .before .before .before .pre .1 in omega (arith, w .standing .fits, w .tallied .few)
 
   branch-returns-3 : branch-lts.Need-returns-3 branch-calls branch-at branch.Post
   branch-returns-3 c =
       let above = rw (c .before .before .before .before .before .before .enum-told2 .given .1) at (c .before .before .before .before .before .before .before .before .judge .ensures) in
-      branch-inside (c .before .before .before .before .before .before .before .before .before .before .before .before .before .pre .1) (above .all) (c .before .before .before .copy-inside .ensures)
+      branch-inside (c .before .before .before .before .before .before .before .before .before .before .before .before .before .before .pre .1) (above .all) (c .before .before .before .copy-inside .ensures)
 
   branch-same-length-2 : branch-lts.Need-same-length-2 branch-calls branch-at branch.Post
   branch-same-length-2 c = branch-returns-3 c .listed .filled .size
@@ -174,10 +174,10 @@ module _ (t : ℕ) where
   branch-node-requires : branch-lts.Need-node-requires branch-calls branch-at branch.Post
   branch-node-requires c κs =
       let s = c .before .before .before .before .before .before .before .before .before .before in
-      let w = s .pre .1 in
-      let some : 0 < s .args .run .length = omega (arith, c .before .before .before .before .before .before .before .if1 .left) in
+      let w = s .before .pre .1 in
+      let some : 0 < s .before .args .run .length = omega (arith, c .before .before .before .before .before .before .before .if1 .left) in
       let j = rw (c .before .before .before .judged .given .1) at (c .before .before .before .before .before .judge .ensures) in
-      (omega (arith, s .pre .0), (walkable-faced w (j .lives), (some, judged-open j (own-held w some))))
+      (omega (arith, s .before .pre .0), (walkable-faced w (j .lives), (some, judged-open j (own-held w some))))
 
   branch-same-length-3 : branch-lts.Need-same-length-3 branch-calls branch-at branch.Post
   branch-same-length-3 c = c .before .before .node .ensures .listed .filled .size
@@ -187,7 +187,7 @@ module _ (t : ℕ) where
 
   -- The two branches that the node part goes on to.
   left-is : (c : node-lts.After-left-run node-calls node-at node.Post) →
-      let a = c .before .before .before .before .before .before .before .before .before .before .before .before .before .args in
+      let a = c .before .before .before .before .before .before .before .before .before .before .before .before .before .before .args in
       let r = a .run in
       let p = ownOf (a .order .now) (r .start) (r .length) in
       let child = c .left-run .result in
@@ -198,7 +198,7 @@ module _ (t : ℕ) where
       rw (toZ-ofZ {w = w32} (sfits-of (x .ok)), x .ensures, c .before .next-axis .ensures) at (c .left-run .ensures)
 
   right-is : (c : node-lts.After-right-run node-calls node-at node.Post) →
-      let a = c .before .before .before .before .before .before .before .before .before .before .before .before .before .before .args in
+      let a = c .before .before .before .before .before .before .before .before .before .before .before .before .before .before .before .args in
       let r = a .run in
       let p = ownOf (a .order .now) (r .start) (r .length) in
       let child = c .right-run .result in
@@ -211,30 +211,30 @@ module _ (t : ℕ) where
 
   -- The node's own test tells whether its number is inside.
   told : (c : node-lts.After-inside-live node-calls node-at node.Post) →
-      let a = c .before .before .before .before .before .before .before .args in
+      let a = c .before .before .before .before .before .before .before .before .args in
       let p = ownOf (a .order .now) (a .run .start) (a .run .length) in
-      c .inside-live .result ≡ inside (region (a .k) (facesOf (a .normals .now) (a .offsets .now))) (coord (a .k) (a .points .now) p)
+      c .inside-live .result ≡ inside (region (a .k) (facesOf (a .normals .now) (a .offsets .now) (a .marks .now))) (coord (a .k) (a .points .now) p)
   told c =
-      let s = c .before .before .before .before .before .before .before .pre .1 in
+      let s = c .before .before .before .before .before .before .before .before .pre .1 in
       point-told (c .before .point-at .ensures) (c .inside-live .ensures) .tells (s .0 .faced .lives) (own-held (s .0) (s .1 .0))
 
   -- The node's number, as it was read, is small.
-  number-small : (c : node-lts.After-shared-slice-known2 node-calls node-at node.Post) →
-      let a = c .before .before .before .before .before .args in
+  number-small : (c : node-lts.After-shared-slice-known3 node-calls node-at node.Post) →
+      let a = c .before .before .before .before .before .before .args in
       ownOf (a .order .now) (a .run .start) (a .run .length) < 2 ^ 32
   number-small c =
-      let r = c .before .before .before .before .before .args .run in
-      omega (arith, c .shared-slice-known2 .given (r .start + r .length / 2))
+      let r = c .before .before .before .before .before .before .args .run in
+      omega (arith, c .shared-slice-known3 .given (r .start + r .length / 2))
 
   node-add-middle : node-lts.Need-add-middle node-calls node-at node.Post
-  node-add-middle c = let w = c .before .before .before .before .pre .1 .0 .standing in omega arith
+  node-add-middle c = let w = c .before .before .before .before .before .pre .1 .0 .standing in omega arith
 
   node-mul-p : node-lts.Need-mul-p node-calls node-at node.Post
   node-mul-p c = omega arith
 
   node-shared-slice-read-p : node-lts.Need-shared-slice-read-p node-calls node-at node.Post
   node-shared-slice-read-p c =
-      let s = c .before .before .before .before .before .pre .1 in
+      let s = c .before .before .before .before .before .before .pre .1 in
       let w = s .0 .standing in
       let some = s .1 .0 in
       omega arith
@@ -243,30 +243,30 @@ module _ (t : ℕ) where
   node-cast-point-at c = omega (arith, number-small c)
 
   node-point-at-requires : node-lts.Need-point-at-requires node-calls node-at node.Post
-  node-point-at-requires c κs = let s = c .before .before .before .before .before .pre .1 in own-point (s .0 .standing) (s .1 .0)
+  node-point-at-requires c κs = let s = c .before .before .before .before .before .before .pre .1 in own-point (s .0 .standing) (s .1 .0)
 
   node-inside-live-requires : node-lts.Need-inside-live-requires node-calls node-at node.Post
   node-inside-live-requires c κs =
-      let w = c .before .before .before .before .before .before .pre .1 .0 in
+      let w = c .before .before .before .before .before .before .before .pre .1 .0 in
       (c .point-at .ensures .ranges, (w .faced .faces, w .faced .lives .live))
 
   node-add-tally : node-lts.Need-add-tally node-calls node-at node.Post
   node-add-tally c =
-      let s = c .before .before .before .before .before .before .before .before .pre .1 in
+      let s = c .before .before .before .before .before .before .before .before .before .pre .1 in
       let w = s .0 .tallied in
       let some = s .1 .0 in
       omega arith
 
   node-place-requires : node-lts.Need-place-requires node-calls node-at node.Post
   node-place-requires c κs =
-      let s = c .before .before .before .before .before .before .before .before .before .before .before .pre .1 in
+      let s = c .before .before .before .before .before .before .before .before .before .before .before .before .pre .1 in
       let w = s .0 in
       let some = s .1 .0 in
       omega (arith, w .tallied .few, w .tallied .size, w .standing .fits)
 
   node-returns : node-lts.Need-returns node-calls node-at node.Post
   node-returns c =
-      let s = c .before .before .before .before .before .before .before .before .before .before .before .before .before .before .pre .1 in
+      let s = c .before .before .before .before .before .before .before .before .before .before .before .before .before .before .before .pre .1 in
       branch-alone (s .0) (s .1 .0) (omega (arith, c .before .before .before .before .if1 .taken)) (s .1 .1) (rw (told (c .before .before .before .before .before .before .before)) at (c .before .before .place .ensures))
 
   node-same-length : node-lts.Need-same-length node-calls node-at node.Post
@@ -277,45 +277,45 @@ module _ (t : ℕ) where
 
   node-coordinate-requires : node-lts.Need-coordinate-requires node-calls node-at node.Post
   node-coordinate-requires c κs =
-      let s = c .before .before .before .before .before .before .before .before .before .before .pre .1 in
+      let s = c .before .before .before .before .before .before .before .before .before .before .before .pre .1 in
       (own-point (s .0 .standing) (s .1 .0), s .0 .standing .splits)
 
   node-next-axis-requires : node-lts.Need-next-axis-requires node-calls node-at node.Post
-  node-next-axis-requires c κs = c .before .before .before .before .before .before .before .before .before .before .before .pre .1 .0 .standing .splits
+  node-next-axis-requires c κs = c .before .before .before .before .before .before .before .before .before .before .before .before .pre .1 .0 .standing .splits
 
   -- The dimension on which the node splits is one of four.
   splits-small : (c : node-lts.Start node-calls node-at node.Post) → c .args .run .axis < 4
   splits-small c = let w = c .pre .1 .0 .standing in omega (arith, own-point w (c .pre .1 .1 .0) .few)
 
   node-left-run-requires : node-lts.Need-left-run-requires node-calls node-at node.Post
-  node-left-run-requires c κs = splits-small (c .before .before .before .before .before .before .before .before .before .before .before .before)
+  node-left-run-requires c κs = splits-small (c .before .before .before .before .before .before .before .before .before .before .before .before .before)
 
   node-right-run-requires : node-lts.Need-right-run-requires node-calls node-at node.Post
   node-right-run-requires c κs =
       let s = c .before .before .before .before .before .before .before .before .before .before .before .before .before in
-      let w = s .pre .1 .0 .standing in
-      (splits-small s, (s .pre .1 .1 .0, omega arith))
+      let w = s .before .pre .1 .0 .standing in
+      (splits-small (s .before), (s .before .pre .1 .1 .0, omega arith))
 
   node-branch-requires : node-lts.Need-branch-requires node-calls node-at node.Post
   node-branch-requires c κs =
       let s = c .before .before .before .before .before .before .before .before .before .before .before .before .before .before .before in
       let l = left-is (c .before .before) in
-      let some = s .pre .1 .1 .0 in
-      (omega (arith, s .pre .0, l .slots), walkable-left (s .pre .1 .0) some l)
+      let some = s .before .pre .1 .1 .0 in
+      (omega (arith, s .before .pre .0, l .slots), walkable-left (s .before .pre .1 .0) some l)
 
   node-place-requires-2 : node-lts.Need-place-requires-2 node-calls node-at node.Post
   node-place-requires-2 c κs =
       let s = c .before .before .before .before .before .before .before .before .before .before .before .before .before .before .before .before .before .before .before in
-      own-fits (s .pre .1 .0) (s .pre .1 .1 .0) (left-is (c .before .before .before .before .before .before)) (c .before .before .before .branch .ensures)
+      own-fits (s .before .pre .1 .0) (s .before .pre .1 .1 .0) (left-is (c .before .before .before .before .before .before)) (c .before .before .before .branch .ensures)
 
   node-branch-requires-2 : node-lts.Need-branch-requires-2 node-calls node-at node.Post
   node-branch-requires-2 c κs =
       let s = c .before .before .before .before .before .before .before .before .before .before .before .before .before .before .before .before .before .before .before .before .before .before .before in
-      let some = s .pre .1 .1 .0 in
+      let some = s .before .pre .1 .1 .0 in
       let l = left-is (c .before .before .before .before .before .before .before .before .before .before) in
       let r = right-is (c .before .before .before .before .before .before .before .before .before) in
       let own = rw (told (c .before .before .before .before .before .before .before .before .before .before .before .before .before .before .before .before)) at (c .before .before .before .place2 .ensures) in
-      (omega (arith, s .pre .0, r .slots, some), walkable-right (s .pre .1 .0) some l (c .before .before .before .before .before .before .before .branch .ensures) own r)
+      (omega (arith, s .before .pre .0, r .slots, some), walkable-right (s .before .pre .1 .0) some l (c .before .before .before .before .before .before .before .branch .ensures) own r)
 
   node-returns-2 : node-lts.Need-returns-2 node-calls node-at node.Post
   node-returns-2 c =
@@ -323,7 +323,7 @@ module _ (t : ℕ) where
       let l = left-is (c .before .before .before .before .before .before .before .before .before .before .before .before .before) in
       let r = right-is (c .before .before .before .before .before .before .before .before .before .before .before .before) in
       let own = rw (told (c .before .before .before .before .before .before .before .before .before .before .before .before .before .before .before .before .before .before .before)) at (c .before .before .before .before .before .before .place2 .ensures) in
-      branch-open (s .pre .1 .0) (s .pre .1 .1 .0) l (c .before .before .before .before .before .before .before .before .before .before .branch .ensures) own r (s .pre .1 .1 .1) (c .before .before .branch2 .ensures)
+      branch-open (s .before .pre .1 .0) (s .before .pre .1 .1 .0) l (c .before .before .before .before .before .before .before .before .before .before .branch .ensures) own r (s .before .pre .1 .1 .1) (c .before .before .branch2 .ensures)
 
   node-same-length-2 : node-lts.Need-same-length-2 node-calls node-at node.Post
   node-same-length-2 c = node-returns-2 c .listed .filled .size
