@@ -5,18 +5,17 @@ use mathlib.Core.List.{List}
 use Prim.Native.Nat.{ℕ}
 use lib.IntN.{ℤ}
 use Rattle.terms.specs.Tests.{count}
-use Rattle.terms.specs.Lent.{Faces}
 use Rattle.terms.specs.Points.{coord}
 use Rattle.terms.specs.Box.{Box}
-use Rattle.terms.specs.Region.{region, isOpen}
+use Rattle.terms.specs.Region.{Region, isOpen}
 use Rattle.theory.specs.Nesting.{settled-none-open}
 use Rattle.descent.specs.Slots.{runOf}
 use Rattle.descent.specs.Standing.{Standing}
 use Rattle.descent.specs.Boxed.{Boxed}
 use Rattle.descent.specs.SlotBoxes.{slotBoxes}
 
-pub settled-slots : {k : ℕ} {points : List ℤ} {order : List ℕ} (f : Faces) {a c s : ℕ} {b : Box} → Standing k points order a c s
-    → Boxed k (coord k points) order a c b → isOpen (region k f) b ≡ false
-    → count (isOpen (region k f)) (slotBoxes k (coord k points) order a c s b) ≡ 0
-settled-slots {k} {points} {order} f {a} {c} {s} {b} w v shut =
-    settled-none-open (w .fuel) c (region k f) (coord k points) s (runOf order a c) b (w .tree) (v .held) shut
+pub settled-slots : (g : Region) {points : List ℤ} {order : List ℕ} {a c s : ℕ} {b : Box} → Standing (g .k) points order a c s
+    → Boxed (g .k) (coord (g .k) points) order a c b → isOpen g b ≡ false
+    → count (isOpen g) (slotBoxes (g .k) (coord (g .k) points) order a c s b) ≡ 0
+settled-slots g {points} {order} {a} {c} {s} {b} w v shut =
+    settled-none-open (w .fuel) c g (coord (g .k) points) s (runOf order a c) b (w .tree) (v .held) shut

@@ -1,6 +1,7 @@
 pub mod FourDimensions
-pub mod Ranges
 pub mod Above
 pub mod Corners
+pub mod Table
+pub mod Ranges
 pub mod Live
 pub mod Judged

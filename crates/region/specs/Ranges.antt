@@ -1,7 +1,8 @@
 -- What the functions require of coordinates, boxes and faces, and that the products and their sums then fit.
-use mathlib.Core.Path.{_≡_}
+use mathlib.Core.Path.{_≡_, ap, _∙_}
 use mathlib.Core.List.{List}
 use Prim.Native.Nat.{ℕ, suc, _+_, _*_, _≤_, _<_}
+use native.Mathlib.Decide.{decLt}
 use native.Mathlib.Nat.{mul-le-mul}
 use native.Mathlib.Omega.{arith}
 use lib.ListN.{length, getD}
@@ -11,11 +12,14 @@ use mir.Val.{SFits}
 use Rattle.whole.specs.Parts.{ints, abs-parts}
 use Rattle.whole.specs.Magnitudes.{abs-mul}
 use Rattle.whole.specs.Fits.{fits-abs-le}
-use Rattle.whole.specs.IndexedSum.{sumTo, sum-abs}
-use Rattle.terms.specs.Lent.{Faces}
+use Rattle.whole.specs.Products.{zero-mul}
+use Rattle.whole.specs.IndexedSum.{sumTo, sum-abs, sum-rest}
+use Rattle.terms.specs.Lent.{Faces, facesOf}
 use Rattle.terms.specs.Box.{Box, replaced, leftBox, rightBox}
 use Rattle.theory.specs.BoxLaws.{replaced-by}
 use Rattle.theory.specs.Tested.{Between, Coordinates, TestedFaces}
+use Rattle.theory.specs.PointsAlike.{SamePoint, same-point-fewer}
+use Rattle.region.specs.Table.{normalOf, products, Row, Tabled}
 
 -- The first k coordinates of both rows of a box are in range.
 pub record BoxRanges (k : ℕ) (b : Box) : Type 0 where
@@ -35,29 +39,27 @@ module _ {k : ℕ} {b : Box} (r : BoxRanges k b) (s : ℕ) {x : ℤ} (q : Betwee
   pub right-ranges : BoxRanges k (rightBox b s x)
   right-ranges = record { low = replaced-ranges s (r .low) q; high = r .high }
 
--- k components stand from a place on, in range.
-pub record Components (k at : ℕ) (normals : List ℤ) : Type 0 where
+-- A normal of k components in range, with 0 from k on.
+pub record Normal (k : ℕ) (normal : ℕ → ℤ) : Type 0 where
   pub few : k ≤ 4
-  pub room : at + k ≤ length normals
-  pub ranges : (d : ℕ) → d < k → Between (negsuc 32766) (getD normals (at + d) (pos 0)) (pos 32767)
+  pub ranges : (d : ℕ) → d < k → Between (negsuc 32766) (normal d) (pos 32767)
+  pub rest : (d : ℕ) → k ≤ d → d < 4 → normal d ≡ pos 0
 
 -- Tested faces of at most four dimensions.
 pub record KnownFaces (k : ℕ) (f : Faces) : Type 0 where
   pub few : k ≤ 4
   pub tested : TestedFaces k f
 
--- There is a face i.
-pub record HasFace (k : ℕ) (f : Faces) (i : ℕ) : Type 0 where
-  pub all : KnownFaces k f
-  pub known : i < f .h
+-- The normals have a face i of k components.
+pub record HasNormal (k : ℕ) (normals : List ℤ) (i : ℕ) : Type 0 where
+  pub few : k ≤ 4
+  pub room : i * k + k ≤ length normals
 
--- Face i's components start at place i * k.
-pub face-components : {k : ℕ} {f : Faces} {i : ℕ} → HasFace k f i → Components k (i * k) (f .normals)
-face-components {k} {f} {i} w =
-    let more : suc i * k ≤ f .h * k = mul-le-mul (w .known) (omega arith) in
-    let size : length (f .normals) ≡ k * f .h = w .all .tested .normals-size in
-    let room : i * k + k ≤ length (f .normals) = omega arith in
-    record { few = w .all .few; room = room; ranges = λ d m. w .all .tested .components (i * k + d) (omega arith) }
+-- Each face of normals that are k times h long has its own.
+pub has-normal : {k : ℕ} {normals : List ℤ} {h i : ℕ} → k ≤ 4 → length normals ≡ k * h → i < h → HasNormal k normals i
+has-normal {k} {normals} {h} {i} few size l =
+    let more : suc i * k ≤ h * k = mul-le-mul l (omega arith) in
+    record { few = few; room = omega arith }
 
 -- Face i has its offset, in range, and its mark, 0 or 1.
 pub record Marked (offsets : List ℤ) (marks : List ℕ) (i : ℕ) : Type 0 where
@@ -66,16 +68,45 @@ pub record Marked (offsets : List ℤ) (marks : List ℕ) (i : ℕ) : Type 0 whe
   pub offset-range : Between (negsuc 8589934591) (getD offsets i (pos 0)) (pos 8589934592)
   pub mark-range : getD marks i 0 ≤ 1
 
-pub face-marked : {k : ℕ} {f : Faces} {i : ℕ} → HasFace k f i → Marked (f .offsets) (f .marks) i
-face-marked {f = f} {i = i} w =
-    let t = w .all .tested in
-    let offset : i < length (f .offsets) = omega (arith, w .known, t .offsets-size) in
-    let mark : i < length (f .marks) = omega (arith, w .known, t .marks-size) in
-    record { offset-there = offset; mark-there = mark; offset-range = t .offsets-range i offset; mark-range = t .marks-range i mark }
+-- What was tested of face i: its row is a normal, and it has its offset and its mark.
+module _ {k : ℕ} {f : Faces} (w : KnownFaces k f) {i : ℕ} (l : i < f .h) where
+  pub known-row : {row : ℕ → ℤ} → Row k (normalOf k (f .normals) i) row → Normal k row
+  known-row r =
+      let room : i * k + k ≤ length (f .normals) = has-normal {normals = f .normals} (w .few) (w .tested .normals-size) l .room in
+      record { few = w .few; ranges = λ d m. rw (r .same .same d m) (w .tested .components (i * k + d) (omega arith)); rest = r .rest }
 
--- The product of a component and a coordinate.
-abbrev pub products : List ℤ → ℕ → (ℕ → ℤ) → ℕ → ℤ
-products normals at x d = getD normals (at + d) (pos 0) *ℤ x d
+  pub known-marked : Marked (f .offsets) (f .marks) i
+  known-marked =
+      let t = w .tested in
+      let offset : i < length (f .offsets) = omega (arith, t .offsets-size) in
+      let mark : i < length (f .marks) = omega (arith, t .marks-size) in
+      record { offset-there = offset; mark-there = mark; offset-range = t .offsets-range i offset; mark-range = t .marks-range i mark }
+
+-- Faces whose normals are a table: each row is a normal, and each face has its offset and its mark.
+pub record KnownTable (k : ℕ) (f : Faces) : Type 0 where
+  pub many : f .h ≤ 32
+  pub each : (i : ℕ) → i < f .h → Normal k (normalOf 4 (f .normals) i)
+  pub marked : (i : ℕ) → i < f .h → Marked (f .offsets) (f .marks) i
+
+-- The table of tested faces.
+pub known-table : {k : ℕ} {normals offsets table : List ℤ} {marks : List ℕ} → KnownFaces k (facesOf normals offsets marks) → Tabled k normals (length offsets) table
+    → KnownTable k (facesOf table offsets marks)
+known-table w t = record { many = w .tested .many; each = λ i l. known-row w l (t .each i l); marked = λ i l. known-marked w l }
+
+-- The table has a row i.
+pub record HasRow (k : ℕ) (f : Faces) (i : ℕ) : Type 0 where
+  pub all : KnownTable k f
+  pub known : i < f .h
+
+-- A row read from the table is a normal, and its components are those of the region that the table tells of.
+module _ {k : ℕ} {f : Faces} {i : ℕ} (w : HasRow k f i) {row : ℕ → ℤ} (s : SamePoint 4 row (normalOf 4 (f .normals) i)) where
+  pub row-normal : Normal k row
+  row-normal =
+      let n = w .all .each i (w .known) in
+      record { few = n .few; ranges = λ d l. rw (s .same d (omega (arith, n .few))) (n .ranges d l); rest = λ d l m. s .same d m ∙ n .rest d l m }
+
+  pub row-same : SamePoint k row (normalOf 4 (f .normals) i)
+  row-same = same-point-fewer (row-normal .few) s
 
 abs-coordinate : (z : ℤ) → Between (negsuc 32767) z (pos 32767) → natAbs z ≤ 32768
 abs-coordinate z r = omega (ints, abs-parts z)
@@ -83,19 +114,29 @@ abs-coordinate z r = omega (ints, abs-parts z)
 abs-component : (z : ℤ) → Between (negsuc 32766) z (pos 32767) → natAbs z ≤ 32767
 abs-component z r = omega (ints, abs-parts z)
 
-module _ {k at : ℕ} {normals : List ℤ} {x : ℕ → ℤ} (p : Coordinates k x) (n : Components k at normals) where
-  -- A product is at most 32,767 * 32,768.
-  pub abs-product : (d : ℕ) → d < k → natAbs (products normals at x d) ≤ 1073709056
-  abs-product d l = omega (
-    arith,
-    abs-mul (getD normals (at + d) (pos 0)) (x d),
-    mul-le-mul (abs-component _ (n .ranges d l)) (abs-coordinate _ (p .ranges d l)),
-  )
+module _ {k : ℕ} {normal x : ℕ → ℤ} (n : Normal k normal) (p : Coordinates k x) where
+  -- From k on the product is 0.
+  product-rest : (d : ℕ) → k ≤ d → d < 4 → products normal x d ≡ pos 0
+  product-rest d l m = ap (λ (c : ℤ). c *ℤ x d) (n .rest d l m) ∙ zero-mul (x d)
 
-  pub product-fits : (d : ℕ) → d < k → SFits w64 (products normals at x d)
+  -- A product is at most 32,767 * 32,768.
+  pub abs-product : (d : ℕ) → d < 4 → natAbs (products normal x d) ≤ 1073709056
+  abs-product d l = go (decLt d k)
+    where
+      go : Dec (d < k) → natAbs (products normal x d) ≤ 1073709056
+      go (no m) = rw (product-rest d (omega arith) l) (omega arith)
+      go (yes m) = omega (
+        arith,
+        abs-mul (normal d) (x d),
+        mul-le-mul (abs-component _ (n .ranges d m)) (abs-coordinate _ (p .ranges d m)),
+      )
+
+  pub product-fits : (d : ℕ) → d < 4 → SFits w64 (products normal x d)
   product-fits d l = fits-abs-le 1073709056 (abs-product d l) tt
 
-  pub sum-fits : (d : ℕ) → d ≤ k → SFits w64 (sumTo d (products normals at x))
-  sum-fits d l =
-      let few : k ≤ 4 = n .few in
-      fits-abs-le 4294836224 (omega (arith, sum-abs d 1073709056 (products normals at x) (λ e m. abs-product e (omega arith)))) tt
+  pub sum-fits : (d : ℕ) → d ≤ 4 → SFits w64 (sumTo d (products normal x))
+  sum-fits d l = fits-abs-le 4294836224 (omega (arith, sum-abs d 1073709056 (products normal x) (λ e m. abs-product e (omega arith)))) tt
+
+  -- The sum of all four is that of the first k.
+  pub sum-of-four : sumTo 4 (products normal x) ≡ sumTo k (products normal x)
+  sum-of-four = sum-rest 4 k (products normal x) (n .few) product-rest

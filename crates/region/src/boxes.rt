@@ -1,5 +1,6 @@
 // A box against a face by its two corners, and the boxes of a branch's children.
 use crate::faces::above;
+use crate::faces::row_at;
 use crate::faces::sum;
 use terms::CornerRows;
 ghost use mathlib.Core.Path.{_≡_};
@@ -9,11 +10,12 @@ ghost use Rattle.whole.specs.IndexedSum.{sumTo};
 ghost use Rattle.terms.specs.Lent.{facesOf};
 ghost use Rattle.terms.specs.Points.{lone};
 ghost use Rattle.terms.specs.Box.{boxOf, leftBox, rightBox};
-ghost use Rattle.terms.specs.Region.{region, bySign, whollyAbove, whollyBelow};
+ghost use Rattle.terms.specs.Region.{bySign, whollyAbove, whollyBelow};
 ghost use Rattle.theory.specs.Tested.{Coordinates};
 ghost use Rattle.theory.specs.PointsAlike.{SamePoint};
-ghost use Rattle.region.specs.Ranges.{BoxRanges, Components, HasFace, products};
 ghost use Rattle.region.specs.Corners.{corner};
+ghost use Rattle.region.specs.Table.{products, tabled};
+ghost use Rattle.region.specs.Ranges.{BoxRanges, Normal, HasRow};
 
 // The coordinate that the sign of a component chooses: the first where it is 0 or more, else the second.
 fn by_sign(component: i32, first: i32, second: i32) -> i32
@@ -23,63 +25,62 @@ fn by_sign(component: i32, first: i32, second: i32) -> i32
 }
 
 // The corner of a box that a face's signs choose: in each dimension the first row where the component is 0 or more, else the second.
-fn corner_of(k: usize, first: [i32; 4], second: [i32; 4], normals: &[i32], at: usize) -> [i32; 4]
-    requires { ⌜ Components k at (now normals) ⌝ }
-    ensures { λ r. ⌜ SamePoint k (lone r) (corner (lone first) (lone second) (now (normals .entry)) at) ⌝ }
+fn corner_of(first: [i32; 4], second: [i32; 4], row: [i32; 4]) -> [i32; 4]
+    ensures { λ r. ⌜ SamePoint 4 (lone r) (corner (lone first) (lone second) (lone row)) ⌝ }
 {
     let mut chosen: [i32; 4] = [0; 4];
     for d in 0..4 {
-        if d < k {
-            chosen[d] = by_sign(normals[at + d], first[d], second[d]);
-        }
+        chosen[d] = by_sign(row[d], first[d], second[d]);
     }
     chosen
 }
 
 // The sum of products at that corner. With the rows low and high it is the corner furthest against the normal, with high and low the opposite one.
-pub fn corner_sum(k: usize, first: [i32; 4], second: [i32; 4], normals: &[i32], at: usize) -> i64
+pub fn corner_sum(k: usize, first: [i32; 4], second: [i32; 4], row: [i32; 4]) -> i64
     requires { ⌜ Coordinates k (lone first) ⌝ }
     requires { ⌜ Coordinates k (lone second) ⌝ }
-    requires { ⌜ Components k at (now normals) ⌝ }
-    ensures { λ r. ⌜ r ≡ sumTo k (products (now (normals .entry)) at (corner (lone first) (lone second) (now (normals .entry)) at)) ⌝ }
+    requires { ⌜ Normal k (lone row) ⌝ }
+    ensures { λ r. ⌜ r ≡ sumTo k (products (lone row) (corner (lone first) (lone second) (lone row))) ⌝ }
 {
-    sum(k, corner_of(k, first, second, normals, at), normals, at)
+    sum(k, corner_of(first, second, row), row)
 }
 
 // Whether a box is wholly above face i: its corner furthest against the normal is above.
 pub fn wholly_above(
     k: usize,
     rows: CornerRows,
-    normals: &[i32],
+    table: &[i32; 128],
     offsets: &[i64],
     marks: &[u8],
     i: usize,
 ) -> bool
     requires { ⌜ BoxRanges k (boxOf rows) ⌝ }
-    requires { ⌜ HasFace k (facesOf (now normals) (now offsets) (now marks)) i ⌝ }
-    ensures { λ r. ⌜ r ≡ whollyAbove (region k (facesOf (now (normals .entry)) (now (offsets .entry)) (now (marks .entry)))) (boxOf rows) i ⌝ }
+    requires { ⌜ HasRow k (facesOf (now table) (now offsets) (now marks)) i ⌝ }
+    ensures { λ r. ⌜ r ≡ whollyAbove (tabled k (facesOf (now (table .entry)) (now (offsets .entry)) (now (marks .entry)))) (boxOf rows) i ⌝ }
 {
     let low = rows.low;
     let high = rows.high;
-    above(corner_sum(k, low, high, normals, i * k), offsets, marks, i)
+    let row = row_at(table, i);
+    above(corner_sum(k, low, high, row), offsets, marks, i)
 }
 
 // Whether a box is wholly below face i: the opposite corner is below.
 pub fn wholly_below(
     k: usize,
     rows: CornerRows,
-    normals: &[i32],
+    table: &[i32; 128],
     offsets: &[i64],
     marks: &[u8],
     i: usize,
 ) -> bool
     requires { ⌜ BoxRanges k (boxOf rows) ⌝ }
-    requires { ⌜ HasFace k (facesOf (now normals) (now offsets) (now marks)) i ⌝ }
-    ensures { λ r. ⌜ r ≡ whollyBelow (region k (facesOf (now (normals .entry)) (now (offsets .entry)) (now (marks .entry)))) (boxOf rows) i ⌝ }
+    requires { ⌜ HasRow k (facesOf (now table) (now offsets) (now marks)) i ⌝ }
+    ensures { λ r. ⌜ r ≡ whollyBelow (tabled k (facesOf (now (table .entry)) (now (offsets .entry)) (now (marks .entry)))) (boxOf rows) i ⌝ }
 {
     let low = rows.low;
     let high = rows.high;
-    !above(corner_sum(k, high, low, normals, i * k), offsets, marks, i)
+    let row = row_at(table, i);
+    !above(corner_sum(k, high, low, row), offsets, marks, i)
 }
 
 // The row with its entry of dimension s replaced by x. Every entry is asked whether it is the one, so that no row has to be stored and read back.

@@ -6,8 +6,8 @@ ghost use mathlib.Core.Path.{_≡_};
 ghost use lib.ListN.{length};
 ghost use Rattle.terms.specs.Lent.{facesOf};
 ghost use Rattle.terms.specs.Box.{boxOf};
-ghost use Rattle.terms.specs.Region.{region};
-ghost use Rattle.region.specs.Ranges.{BoxRanges, KnownFaces};
+ghost use Rattle.region.specs.Table.{tabled};
+ghost use Rattle.region.specs.Ranges.{BoxRanges, KnownTable};
 ghost use Rattle.region.specs.Live.{Lives};
 ghost use Rattle.region.specs.Judged.{Judged};
 
@@ -23,7 +23,7 @@ pub enum Judgement {
 pub fn judge(
     k: usize,
     rows: CornerRows,
-    normals: &[i32],
+    table: &[i32; 128],
     offsets: &[i64],
     marks: &[u8],
     live: &[u8; 32],
@@ -31,18 +31,18 @@ pub fn judge(
     next: &mut [u8; 32],
 ) -> Judgement
     requires { ⌜ BoxRanges k (boxOf rows) ⌝ }
-    requires { ⌜ KnownFaces k (facesOf (now normals) (now offsets) (now marks)) ⌝ }
-    requires { ⌜ Lives (region k (facesOf (now normals) (now offsets) (now marks))) (boxOf rows) (now live) count ⌝ }
+    requires { ⌜ KnownTable k (facesOf (now table) (now offsets) (now marks)) ⌝ }
+    requires { ⌜ Lives (tabled k (facesOf (now table) (now offsets) (now marks))) (boxOf rows) (now live) count ⌝ }
     requires { ⌜ length (now next) ≡ 32 ⌝ }
-    ensures { λ r. ⌜ Judged (region k (facesOf (now (normals .entry)) (now (offsets .entry)) (now (marks .entry)))) (boxOf rows) (now (live .entry)) count
+    ensures { λ r. ⌜ Judged (tabled k (facesOf (now (table .entry)) (now (offsets .entry)) (now (marks .entry)))) (boxOf rows) (now (live .entry)) count
         r (now (next .exit)) ⌝ }
 {
     let mut left: usize = 0;
     for t in 0..count {
         let f = live[t];
         let i = f as usize;
-        if !wholly_above(k, rows, normals, offsets, marks, i) {
-            if wholly_below(k, rows, normals, offsets, marks, i) {
+        if !wholly_above(k, rows, table, offsets, marks, i) {
+            if wholly_below(k, rows, table, offsets, marks, i) {
                 return Judgement::Below(i);
             }
             next[left] = f;

@@ -5,9 +5,9 @@ ghost use Prim.Native.Nat.{_≤_};
 ghost use lib.ListN.{length};
 ghost use Rattle.terms.specs.Lent.{facesOf};
 ghost use Rattle.terms.specs.Points.{lone};
-ghost use Rattle.terms.specs.Region.{region};
 ghost use Rattle.theory.specs.Tested.{Coordinates};
-ghost use Rattle.region.specs.Ranges.{KnownFaces};
+ghost use Rattle.region.specs.Table.{tabled};
+ghost use Rattle.region.specs.Ranges.{KnownTable};
 ghost use Rattle.region.specs.Live.{LiveFaces, AllLive, InsideByLive};
 
 // All faces, which are live before any box is asked: the first h entries.
@@ -26,19 +26,19 @@ pub fn all_faces(h: usize) -> [u8; 32]
 pub fn inside_live(
     k: usize,
     x: [i32; 4],
-    normals: &[i32],
+    table: &[i32; 128],
     offsets: &[i64],
     marks: &[u8],
     live: &[u8; 32],
     count: usize,
 ) -> bool
     requires { ⌜ Coordinates k (lone x) ⌝ }
-    requires { ⌜ KnownFaces k (facesOf (now normals) (now offsets) (now marks)) ⌝ }
+    requires { ⌜ KnownTable k (facesOf (now table) (now offsets) (now marks)) ⌝ }
     requires { ⌜ LiveFaces (length (now offsets)) (now live) count ⌝ }
-    ensures { λ r. ⌜ InsideByLive (region k (facesOf (now (normals .entry)) (now (offsets .entry)) (now (marks .entry)))) (now (live .entry)) count (lone x) r ⌝ }
+    ensures { λ r. ⌜ InsideByLive (tabled k (facesOf (now (table .entry)) (now (offsets .entry)) (now (marks .entry)))) (now (live .entry)) count (lone x) r ⌝ }
 {
     for t in 0..count {
-        if !point_above(k, x, normals, offsets, marks, live[t] as usize) {
+        if !point_above(k, x, table, offsets, marks, live[t] as usize) {
             return false;
         }
     }

@@ -11,13 +11,14 @@ use Rattle.terms.specs.Lent.{Faces}
 use Rattle.terms.specs.Points.{coord}
 use Rattle.terms.specs.Run.{axis}
 use Rattle.terms.specs.Box.{Box, boxOf, leftBox, rightBox, boxes}
-use Rattle.terms.specs.Region.{Region, region, inside, whollyAbove, whollyBelow, isOpen}
+use Rattle.terms.specs.Region.{Region, inside, whollyAbove, whollyBelow, isOpen}
 use Rattle.terms.specs.Lists.{insides}
 use Rattle.theory.specs.Counting.{count-not}
 use Rattle.theory.specs.AllAndAny.{OneBelow}
 use Rattle.theory.specs.Boxes.{In}
 use Rattle.theory.specs.Nesting.{above-all-settled, below-one-settled}
 use Rattle.theory.specs.Containment.{above-all-insides, below-one-insides}
+use Rattle.region.specs.Table.{tabled}
 use Rattle.region.specs.Live.{Lives}
 use Rattle.descent.specs.declared.runs.Run.{Run}
 use Rattle.descent.specs.Slots.{runOf, ownOf, run-length, run-starts, run-whole}
@@ -40,7 +41,7 @@ pub record Screenable (k : ℕ) (points : List ℤ) (order : List ℕ) (f : Face
 -- The screen of the c slots from slot a on, a branch in box b whose node splits on dimension s.
 abbrev pub BranchScreened : ℕ → List ℤ → List ℕ → Faces → ℕ → ℕ → ℕ → Box → ℕ → Bool → ℕ → ℕ → Type 0
 BranchScreened k points order f a c s b u found number v =
-    Screened (region k f) (coord k points) (runOf order a c) (slotBoxes k (coord k points) order a c s b) u found number v
+    Screened (tabled k f) (coord k points) (runOf order a c) (slotBoxes k (coord k points) order a c s b) u found number v
 
 -- An empty branch has none.
 pub screened-empty : (k : ℕ) (points : List ℤ) (order : List ℕ) (f : Faces) (a c s : ℕ) (b : Box) (u number : ℕ) → c ≡ 0
@@ -51,26 +52,26 @@ screened-empty k points order f a c s b u number e = rw e (screened-out _ _ _ _ 
 module _ {k : ℕ} {points : List ℤ} {order : List ℕ} {f : Faces} {a c s : ℕ} {b : Box} {live : List ℕ} {n u : ℕ}
     (w : Screenable k points order f a c s b live n u) where
   -- Other faces that are live for its box serve as well.
-  pub screenable-faced : {next : List ℕ} {left : ℕ} → Lives (region k f) b next left → Screenable k points order f a c s b next left u
+  pub screenable-faced : {next : List ℕ} {left : ℕ} → Lives (tabled k f) b next left → Screenable k points order f a c s b next left u
   screenable-faced lives = record { standing = w .standing; boxed = w .boxed; faced = record { faces = w .faced .faces; lives = lives }; seen = w .seen }
 
   -- A branch wholly above all faces has its first slot's number, with no point looked at.
-  pub screened-above : 0 < c → ((i : ℕ) → i < f .h → whollyAbove (region k f) b i ≡ true) → BranchScreened k points order f a c s b u true (getD order a 0) u
+  pub screened-above : 0 < c → ((i : ℕ) → i < f .h → whollyAbove (tabled k f) b i ≡ true) → BranchScreened k points order f a c s b u true (getD order a 0) u
   screened-above some above =
-      let g : Region = region k f in
+      let g : Region = tabled k f in
       let (rest, e) = run-starts order a c (w .standing .fits) some in
-      screened-in _ _ _ _ _ (settled-slots f (w .standing) (w .boxed) (above-all-settled g b above)) (getD order a 0) rest (above-all-insides g (w .boxed .held) above ∙ e)
+      screened-in _ _ _ _ _ (settled-slots (tabled k f) (w .standing) (w .boxed) (above-all-settled g b above)) (getD order a 0) rest (above-all-insides g (w .boxed .held) above ∙ e)
 
   -- One wholly below a face has none.
-  pub screened-below : (number : ℕ) → OneBelow (f .h) (whollyBelow (region k f) b) true → BranchScreened k points order f a c s b u false number u
+  pub screened-below : (number : ℕ) → OneBelow (f .h) (whollyBelow (tabled k f) b) true → BranchScreened k points order f a c s b u false number u
   screened-below number below =
-      let g : Region = region k f in
-      screened-out _ _ _ _ _ (settled-slots f (w .standing) (w .boxed) (below-one-settled g b below)) number (below-one-insides g (w .boxed .held) below)
+      let g : Region = tabled k f in
+      screened-out _ _ _ _ _ (settled-slots (tabled k f) (w .standing) (w .boxed) (below-one-settled g b below)) number (below-one-insides g (w .boxed .held) below)
 
 -- The left branch of a branch, which has none inside: after u visits, v with those of all its open slots.
 pub record LeftNone (k : ℕ) (points : List ℤ) (order : List ℕ) (f : Faces) (a c s : ℕ) (b : Box) (u v : ℕ) : Type 0 where
-  pub none : insides (region k f) (coord k points) (runOf order a (c / 2)) ≡ []
-  pub visits : v ≡ u + count (isOpen (region k f)) (slotBoxes k (coord k points) order a (c / 2) (axis k (s + 1)) (leftBox b s (coord k points (ownOf order a c) s)))
+  pub none : insides (tabled k f) (coord k points) (runOf order a (c / 2)) ≡ []
+  pub visits : v ≡ u + count (isOpen (tabled k f)) (slotBoxes k (coord k points) order a (c / 2) (axis k (s + 1)) (leftBox b s (coord k points (ownOf order a c) s)))
 
 module _ {k : ℕ} {points : List ℤ} {order : List ℕ} {f : Faces} {a c s : ℕ} {b : Box} {live : List ℕ} {n u : ℕ}
     (w : Screenable k points order f a c s b live n u) (some : 0 < c) where
@@ -130,10 +131,10 @@ module _ {k : ℕ} {points : List ℤ} {order : List ℕ} {f : Faces} {a c s : �
 
   module _ {v : ℕ} (l : LeftNone k points order f a c s b u v) where
     pub seen-most : v ≤ u + c / 2
-    seen-most = omega (arith, l .visits, count-not (isOpen (region k f)) (slotBoxes k (coord k points) order a (c / 2) (axis k (s + 1)) (leftBox b s (coord k points (ownOf order a c) s))), lefts-length (axis k (s + 1)) (leftBox b s (coord k points (ownOf order a c) s)))
+    seen-most = omega (arith, l .visits, count-not (isOpen (tabled k f)) (slotBoxes k (coord k points) order a (c / 2) (axis k (s + 1)) (leftBox b s (coord k points (ownOf order a c) s))), lefts-length (axis k (s + 1)) (leftBox b s (coord k points (ownOf order a c) s)))
 
     -- The node's own number is inside.
-    pub screened-by-node : isOpen (region k f) b ≡ true → inside (region k f) (coord k points (ownOf order a c)) ≡ true
+    pub screened-by-node : isOpen (tabled k f) b ≡ true → inside (tabled k f) (coord k points (ownOf order a c)) ≡ true
         → BranchScreened k points order f a c s b u true (ownOf order a c) (v + 1)
     screened-by-node e i =
         let fits = w .standing .fits in
@@ -147,7 +148,7 @@ module _ {k : ℕ} {points : List ℤ} {order : List ℕ} {f : Faces} {a c s : �
       screenable-right = rw (r .starts, r .slots, r .splits, r .in-box) (right-screenable seen-most)
 
       -- It is outside: the right branch has the answer.
-      pub screened-by-right : {found : Bool} {number last : ℕ} → isOpen (region k f) b ≡ true → inside (region k f) (coord k points (ownOf order a c)) ≡ false
+      pub screened-by-right : {found : Bool} {number last : ℕ} → isOpen (tabled k f) b ≡ true → inside (tabled k f) (coord k points (ownOf order a c)) ≡ false
           → BranchScreened k points order f start size split box (v + 1) found number last → BranchScreened k points order f a c s b u found number last
       screened-by-right e i z =
           let fits = w .standing .fits in

@@ -1,5 +1,5 @@
 -- The screen of a whole shelf: the root is a branch of all slots that splits on dimension 0, in the root box, and what its screen finds is what the words say of the shelf.
-use mathlib.Core.Path.{_≡_, refl, ap, _∙_}
+use mathlib.Core.Path.{_≡_, refl, sym, ap, _∙_}
 use mathlib.Core.Bool.{Bool, true, false}
 use mathlib.Core.List.{List, [], _∷_, map}
 use Prim.Native.Nat.{ℕ, _≤_, _<_}
@@ -7,10 +7,10 @@ use native.Mathlib.Omega.{arith}
 use lib.ListN.{length, take}
 use lib.Seq.{take-length}
 use lib.IntN.{ℤ}
-use Rattle.terms.specs.Tests.{count}
-use Rattle.terms.specs.Lent.{Faces}
-use Rattle.terms.specs.Box.{Box, rootBox, boxes}
-use Rattle.terms.specs.Region.{Region, isOpen}
+use Rattle.terms.specs.Tests.{count, keep}
+use Rattle.terms.specs.Lent.{Faces, facesOf}
+use Rattle.terms.specs.Box.{Box, rootBox, boxes, shelfBoxes}
+use Rattle.terms.specs.Region.{Region, region, inside, isOpen}
 use Rattle.terms.specs.Visits.{openSlots}
 use Rattle.terms.specs.Lists.{insides}
 use Rattle.terms.specs.Screen.{insideSlots, upToFirst, screenVisits}
@@ -18,7 +18,8 @@ use Rattle.theory.specs.Boxes.{Alike}
 use Rattle.theory.specs.BoxesAlike.{tests-alike}
 use Rattle.theory.specs.Nesting.{open-alike}
 use Rattle.theory.specs.FirstInside.{count-take}
-use Rattle.region.specs.Ranges.{KnownFaces}
+use Rattle.region.specs.Table.{Tabled, tabled, inside-tabled, open-tabled}
+use Rattle.region.specs.Ranges.{KnownTable}
 use Rattle.region.specs.Live.{AllLive}
 use Rattle.descent.specs.Slots.{runOf}
 use Rattle.descent.specs.SlotBoxes.{slotBoxes}
@@ -28,7 +29,7 @@ use Rattle.screen_walk.specs.Parts.{Screenable}
 
 -- The root can be screened.
 pub screenable-root : {k : ℕ} {points : List ℤ} {order : List ℕ} {f : Faces} {b : Box} {live : List ℕ}
-    → Rooted k points order b → KnownFaces k f → AllLive (f .h) live (f .h) → Screenable k points order f 0 (length order) 0 b live (f .h) 0
+    → Rooted k points order b → KnownTable k f → AllLive (f .h) live (f .h) → Screenable k points order f 0 (length order) 0 b live (f .h) 0
 screenable-root r faces all = record {
   standing = r .standing;
   boxed = boxed-root r;
@@ -59,3 +60,31 @@ pub shelf-screened : {g : Region} {at : ℕ → ℕ → ℤ} {order : List ℕ} 
 shelf-screened {g} {at} {order} same w =
     let v = rw (take-length order) at w in
     record { none = v .none; one = v .one; visited = omega (arith, v .visits, root-seen g at order same) }
+
+-- What it finds by the table of the faces is what it finds by the faces.
+module _ {k : ℕ} {normals table : List ℤ} (offsets : List ℤ) (marks : List ℕ) (at : ℕ → ℕ → ℤ) (order : List ℕ) (t : Tabled k normals (length offsets) table) where
+  abbrev byTable : Region
+  byTable = tabled k (facesOf table offsets marks)
+
+  abbrev byFaces : Region
+  byFaces = region k (facesOf normals offsets marks)
+
+  insides-same : insides byTable at order ≡ insides byFaces at order
+  insides-same = ap (λ (test : (ℕ → ℤ) → Bool). keep (λ p. test (at p)) order) (inside-tabled offsets marks t)
+
+  visits-same : screenVisits byTable at order ≡ screenVisits byFaces at order
+  unfolding screenVisits openSlots insideSlots
+  visits-same =
+      ap
+      (λ (test : (ℕ → ℤ) → Bool). count (λ t. t) (take (upToFirst (map (λ p. test (at p)) order)) (map (isOpen byTable) (shelfBoxes k at order))))
+      (inside-tabled offsets marks t)
+      ∙ ap
+      (λ (test : Box → Bool). count (λ t. t) (take (upToFirst (map (λ p. inside byFaces (at p)) order)) (map test (shelfBoxes k at order))))
+      (open-tabled offsets marks t)
+
+  pub screened-by-faces : {found : Bool} {number u : ℕ} → ShelfScreened byTable at order found number u → ShelfScreened byFaces at order found number u
+  screened-by-faces w = record {
+    none = λ e. sym insides-same ∙ w .none e;
+    one = λ e. let z = w .one e in (z .0, sym insides-same ∙ z .1);
+    visited = w .visited ∙ visits-same;
+  }

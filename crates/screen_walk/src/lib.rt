@@ -3,6 +3,7 @@ mod parts;
 
 use descent::runs::Run;
 use parts::branch;
+use region::faces::table_of;
 use region::live::all_faces;
 use terms::CornerRows;
 ghost use Rattle.terms.specs.Lent.{facesOf};
@@ -43,6 +44,7 @@ pub fn screen(
         rows: rows,
     };
     let h = offsets.len();
+    let table = table_of(k, normals, h);
     let live = all_faces(h);
-    branch(k, points, order, normals, offsets, marks, root, &live, h, 0)
+    branch(k, points, order, &table, offsets, marks, root, &live, h, 0)
 }

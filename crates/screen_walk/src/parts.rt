@@ -15,7 +15,8 @@ ghost use mathlib.Core.Bool.{true};
 ghost use Prim.Native.Nat.{_<_};
 ghost use Rattle.terms.specs.Lent.{facesOf};
 ghost use Rattle.terms.specs.Box.{boxOf};
-ghost use Rattle.terms.specs.Region.{region, isOpen};
+ghost use Rattle.terms.specs.Region.{isOpen};
+ghost use Rattle.region.specs.Table.{tabled};
 ghost use Rattle.screen_walk.specs.Parts.{BranchAsks, BranchDoes};
 
 // The part for a branch: its box is judged against the faces that are live for it. A settled branch has none inside, or its first slot's number is; an open
@@ -24,7 +25,7 @@ pub fn branch(
     k: usize,
     points: &[i32],
     order: &[u32],
-    normals: &[i32],
+    table: &[i32; 128],
     offsets: &[i64],
     marks: &[u8],
     run: Run,
@@ -32,8 +33,8 @@ pub fn branch(
     count: usize,
     visits: usize,
 ) -> Seen
-    requires { ⌜ BranchAsks k (now points) (now order) (facesOf (now normals) (now offsets) (now marks)) run (now live) count visits ⌝ }
-    ensures { λ r. ⌜ BranchDoes k (now (points .entry)) (now (order .entry)) (facesOf (now (normals .entry)) (now (offsets .entry)) (now (marks .entry))) run visits r ⌝ }
+    requires { ⌜ BranchAsks k (now points) (now order) (facesOf (now table) (now offsets) (now marks)) run (now live) count visits ⌝ }
+    ensures { λ r. ⌜ BranchDoes k (now (points .entry)) (now (order .entry)) (facesOf (now (table .entry)) (now (offsets .entry)) (now (marks .entry))) run visits r ⌝ }
 {
     let none = Seen {
         found: false,
@@ -44,7 +45,7 @@ pub fn branch(
         return none;
     }
     let mut next = [0u8; 32];
-    let judged = judge(k, run.rows, normals, offsets, marks, live, count, &mut next);
+    let judged = judge(k, run.rows, table, offsets, marks, live, count, &mut next);
     match judged {
         Judgement::Below(_) => {
             return none;
@@ -62,7 +63,7 @@ pub fn branch(
                 k,
                 points,
                 order,
-                normals,
+                table,
                 offsets,
                 marks,
                 run,
@@ -80,7 +81,7 @@ fn node(
     k: usize,
     points: &[i32],
     order: &[u32],
-    normals: &[i32],
+    table: &[i32; 128],
     offsets: &[i64],
     marks: &[u8],
     run: Run,
@@ -88,10 +89,10 @@ fn node(
     count: usize,
     visits: usize,
 ) -> Seen
-    requires { ⌜ BranchAsks k (now points) (now order) (facesOf (now normals) (now offsets) (now marks)) run (now live) count visits ⌝ }
+    requires { ⌜ BranchAsks k (now points) (now order) (facesOf (now table) (now offsets) (now marks)) run (now live) count visits ⌝ }
     requires { ⌜ 0 < run .length ⌝ }
-    requires { ⌜ isOpen (region k (facesOf (now normals) (now offsets) (now marks))) (boxOf (run .rows)) ≡ true ⌝ }
-    ensures { λ r. ⌜ BranchDoes k (now (points .entry)) (now (order .entry)) (facesOf (now (normals .entry)) (now (offsets .entry)) (now (marks .entry))) run visits r ⌝ }
+    requires { ⌜ isOpen (tabled k (facesOf (now table) (now offsets) (now marks))) (boxOf (run .rows)) ≡ true ⌝ }
+    ensures { λ r. ⌜ BranchDoes k (now (points .entry)) (now (order .entry)) (facesOf (now (table .entry)) (now (offsets .entry)) (now (marks .entry))) run visits r ⌝ }
 {
     let middle = run.start + run.length / 2;
     let p = order[middle];
@@ -104,7 +105,7 @@ fn node(
             k,
             points,
             order,
-            normals,
+            table,
             offsets,
             marks,
             left,
@@ -119,7 +120,7 @@ fn node(
     }
     seen += 1;
     let x = point_at(k, points, p as usize);
-    let inside = inside_live(k, x, normals, offsets, marks, live, count);
+    let inside = inside_live(k, x, table, offsets, marks, live, count);
     if inside {
         return Seen {
             found: true,
@@ -132,7 +133,7 @@ fn node(
         k,
         points,
         order,
-        normals,
+        table,
         offsets,
         marks,
         right,

@@ -1,6 +1,7 @@
 -- A region says the same of two points with the same first k coordinates: a sum of products reads no others.
 use mathlib.Core.Path.{_≡_, sym, ap, fun-ext}
-use Prim.Native.Nat.{ℕ, _<_}
+use Prim.Native.Nat.{ℕ, _≤_, _<_}
+use native.Mathlib.Omega.{arith}
 use lib.IntN.{ℤ, _*ℤ_}
 use Rattle.whole.specs.IndexedSum.{sumTo, sum-same}
 use Rattle.terms.specs.Tests.{allTo}
@@ -15,6 +16,10 @@ pub record SamePoint (k : ℕ) (x y : ℕ → ℤ) : Type 0 where
 
 pub same-point-sym : {k : ℕ} {x y : ℕ → ℤ} → SamePoint k x y → SamePoint k y x
 same-point-sym s = record { same = λ d l. sym (s .same d l) }
+
+-- Then they have the same first k for every smaller k.
+pub same-point-fewer : {k m : ℕ} {x y : ℕ → ℤ} → k ≤ m → SamePoint m x y → SamePoint k x y
+same-point-fewer l s = record { same = λ d m. s .same d (omega arith) }
 
 -- They lie in the same boxes.
 pub in-same-point : {k : ℕ} {b : Box} {x y : ℕ → ℤ} → SamePoint k x y → In k b x → In k b y

@@ -13,10 +13,11 @@ use Rattle.terms.specs.Lent.{Faces}
 use Rattle.terms.specs.Points.{coord}
 use Rattle.terms.specs.Run.{axis}
 use Rattle.terms.specs.Box.{Box, boxOf, leftBox, rightBox, boxes}
-use Rattle.terms.specs.Region.{region, inside, whollyAbove, whollyBelow, isOpen}
+use Rattle.terms.specs.Region.{inside, whollyAbove, whollyBelow, isOpen}
 use Rattle.theory.specs.AllAndAny.{OneBelow}
 use Rattle.theory.specs.Boxes.{In}
 use Rattle.theory.specs.Nesting.{above-all-settled, below-one-settled}
+use Rattle.region.specs.Table.{tabled}
 use Rattle.region.specs.Live.{Lives}
 use Rattle.list_buffer.specs.Filled.{Placed, pasteBack}
 use Rattle.walk.specs.declared.Tally.{Tally}
@@ -41,7 +42,7 @@ pub record Walkable (k : ℕ) (points : List ℤ) (order : List ℕ) (f : Faces)
 -- The walk of the c slots from slot a on, a branch in box b whose node splits on dimension s.
 abbrev pub BranchWalked : ℕ → List ℤ → List ℕ → Faces → ℕ → ℕ → ℕ → Box → List ℕ → List ℕ → ℕ → ℕ → ℕ → ℕ → Type 0
 BranchWalked k points order f a c s b list after i u j v =
-    Walked (region k f) (coord k points) (runOf order a c) (slotBoxes k (coord k points) order a c s b) list after a i u j v
+    Walked (tabled k f) (coord k points) (runOf order a c) (slotBoxes k (coord k points) order a c s b) list after a i u j v
 
 -- An empty branch.
 pub branch-empty : (k : ℕ) (points : List ℤ) (order : List ℕ) (f : Faces) (a c s : ℕ) (b : Box) (list : List ℕ) (i u : ℕ) → c ≡ 0
@@ -52,7 +53,7 @@ branch-empty k points order f a c s b list i u e = rw e (walked-none _ _ _ _ _ _
 module _ {k : ℕ} {points : List ℤ} {order : List ℕ} {f : Faces} {a c s : ℕ} {b : Box} {live : List ℕ} {n : ℕ} {list : List ℕ} {i u : ℕ}
     (w : Walkable k points order f a c s b live n list i u) where
   -- Other faces that are live for its box serve as well.
-  pub walkable-faced : {next : List ℕ} {left : ℕ} → Lives (region k f) b next left
+  pub walkable-faced : {next : List ℕ} {left : ℕ} → Lives (tabled k f) b next left
       → Walkable k points order f a c s b next left list i u
   walkable-faced lives = record {
     standing = w .standing;
@@ -65,17 +66,17 @@ module _ {k : ℕ} {points : List ℤ} {order : List ℕ} {f : Faces} {a c s : �
   room = omega (arith, run-length order a c (w .standing .fits), w .tallied .size, w .standing .fits)
 
   -- A settled branch, as its run was lent to a copier.
-  pub branch-inside : {after : List ℕ} → ((i : ℕ) → i < f .h → whollyAbove (region k f) b i ≡ true)
+  pub branch-inside : {after : List ℕ} → ((i : ℕ) → i < f .h → whollyAbove (tabled k f) b i ≡ true)
       → after ≡ paste list i (lentOf order a c) (length (lentOf order a c)) → BranchWalked k points order f a c s b list after i u (i + c) u
   branch-inside above e =
       rw (run-length order a c (w .standing .fits))
-      at (walked-inside u (w .tallied .few) room (w .boxed .held) (settled-slots f (w .standing) (w .boxed) (above-all-settled (region k f) b above)) above (rw (lent-run order a c) at e))
+      at (walked-inside u (w .tallied .few) room (w .boxed .held) (settled-slots (tabled k f) (w .standing) (w .boxed) (above-all-settled (tabled k f) b above)) above (rw (lent-run order a c) at e))
 
-  pub branch-outside : {after : List ℕ} → OneBelow (f .h) (whollyBelow (region k f) b) true
+  pub branch-outside : {after : List ℕ} → OneBelow (f .h) (whollyBelow (tabled k f) b) true
       → after ≡ pasteBack list (length list - (a - i)) (lentOf order a c) (length (lentOf order a c))
       → BranchWalked k points order f a c s b list after i u i u
   branch-outside below e =
-      walked-outside u (w .tallied .few) room (w .boxed .held) (settled-slots f (w .standing) (w .boxed) (below-one-settled (region k f) b below)) below (rw (lent-run order a c) at e)
+      walked-outside u (w .tallied .few) room (w .boxed .held) (settled-slots (tabled k f) (w .standing) (w .boxed) (below-one-settled (tabled k f) b below)) below (rw (lent-run order a c) at e)
 
 module _ {k : ℕ} {points : List ℤ} {order : List ℕ} {f : Faces} {a c s : ℕ} {b : Box} {live : List ℕ} {n : ℕ} {list : List ℕ} {i u : ℕ}
     (w : Walkable k points order f a c s b live n list i u) (some : 0 < c) where
@@ -95,7 +96,7 @@ module _ {k : ℕ} {points : List ℤ} {order : List ℕ} {f : Faces} {a c s : �
   -- Once it is walked and the node's own number placed, the right branch can.
   module _ {first next : List ℕ} {i₁ u₁ i₂ : ℕ}
       (v : BranchWalked k points order f a (c / 2) (axis k (s + 1)) (leftBox b s (coord k points (ownOf order a c) s)) list first i (u + 1) i₁ u₁)
-      (q : Placed first next (ownOf order a c) (inside (region k f) (coord k points (ownOf order a c))) (a + c / 2) i₁ i₂) where
+      (q : Placed first next (ownOf order a c) (inside (tabled k f) (coord k points (ownOf order a c))) (a + c / 2) i₁ i₂) where
     half : length (runOf order a (c / 2)) ≡ c / 2
     half = run-length order a (c / 2) (omega (arith, w .standing .fits))
 
@@ -109,7 +110,7 @@ module _ {k : ℕ} {points : List ℤ} {order : List ℕ} {f : Faces} {a c s : �
     }
 
     -- The three together are the walk of the branch.
-    walked-node : {last : List ℕ} {i₃ u₃ : ℕ} → isOpen (region k f) b ≡ true
+    walked-node : {last : List ℕ} {i₃ u₃ : ℕ} → isOpen (tabled k f) b ≡ true
         → BranchWalked k points order f (a + c / 2 + 1) (c - c / 2 - 1) (axis k (s + 1)) (rightBox b s (coord k points (ownOf order a c) s))
         next last i₂ u₁ i₃ u₃
         → BranchWalked k points order f a c s b list last i u i₃ u₃
@@ -120,8 +121,8 @@ module _ {k : ℕ} {points : List ℤ} {order : List ℕ} {f : Faces} {a c s : �
         (walked-open b e half v q r)
 
   -- A node alone in its branch: its own number is all there is to walk.
-  pub branch-alone : {next : List ℕ} {j : ℕ} → c ≡ 1 → isOpen (region k f) b ≡ true
-      → Placed list next (ownOf order a c) (inside (region k f) (coord k points (ownOf order a c))) (a + c / 2) i j
+  pub branch-alone : {next : List ℕ} {j : ℕ} → c ≡ 1 → isOpen (tabled k f) b ≡ true
+      → Placed list next (ownOf order a c) (inside (tabled k f) (coord k points (ownOf order a c))) (a + c / 2) i j
       → BranchWalked k points order f a c s b list next i u j (u + 1)
   branch-alone one e q =
       walked-node
@@ -143,7 +144,7 @@ module _ {k : ℕ} {points : List ℤ} {order : List ℕ} {f : Faces} {a c s : �
         tallied-own (w .tallied) (w .standing .fits) some (rw (l .starts, l .slots, l .splits, l .in-box) at v) (run-length order a (c / 2) (omega (arith, w .standing .fits)))
 
     module _ {first next : List ℕ} {i₁ u₁ i₂ : ℕ} (v : BranchWalked k points order f start size split box list first i (u + 1) i₁ u₁)
-        (q : Placed first next (ownOf order a c) (inside (region k f) (coord k points (ownOf order a c))) (a + c / 2) i₁ i₂)
+        (q : Placed first next (ownOf order a c) (inside (tabled k f) (coord k points (ownOf order a c))) (a + c / 2) i₁ i₂)
         {start₂ size₂ split₂ : ℕ} {box₂ : Box}
         (r : Child (a + c / 2 + 1) (c - c / 2 - 1) (axis k (s + 1)) (rightBox b s (coord k points (ownOf order a c) s)) start₂ size₂ split₂ box₂) where
       left-walked : BranchWalked k points order f a (c / 2) (axis k (s + 1)) (leftBox b s (coord k points (ownOf order a c) s))
@@ -153,7 +154,7 @@ module _ {k : ℕ} {points : List ℤ} {order : List ℕ} {f : Faces} {a c s : �
       pub walkable-right : Walkable k points order f start₂ size₂ split₂ box₂ live n next i₂ u₁
       walkable-right = rw (r .starts, r .slots, r .splits, r .in-box) (right-walkable left-walked q)
 
-      pub branch-open : {last : List ℕ} {i₃ u₃ : ℕ} → isOpen (region k f) b ≡ true
+      pub branch-open : {last : List ℕ} {i₃ u₃ : ℕ} → isOpen (tabled k f) b ≡ true
           → BranchWalked k points order f start₂ size₂ split₂ box₂ next last i₂ u₁ i₃ u₃
           → BranchWalked k points order f a c s b list last i u i₃ u₃
       branch-open e z = walked-node left-walked q e (rw (r .starts, r .slots, r .splits, r .in-box) at z)

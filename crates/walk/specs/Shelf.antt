@@ -1,5 +1,6 @@
 -- The walk of a whole shelf: the root is a branch of all slots that splits on dimension 0, in the root box, and what its walk does is what the words say of the shelf.
-use mathlib.Core.Path.{_≡_, refl, sym, _∙_}
+use mathlib.Core.Path.{_≡_, refl, sym, ap, subst, _∙_}
+use mathlib.Core.Bool.{Bool}
 use mathlib.Core.List.{List, [], _∷_}
 use Prim.Native.Nat.{ℕ, _<_}
 use native.Mathlib.Omega.{arith}
@@ -7,14 +8,15 @@ use lib.ListN.{length}
 use lib.Seq.{take-length}
 use lib.IntN.{ℤ}
 use Rattle.terms.specs.Tests.{count}
-use Rattle.terms.specs.Lent.{Faces}
-use Rattle.terms.specs.Box.{Box, rootBox, boxes}
-use Rattle.terms.specs.Region.{Region, inside, isOpen}
+use Rattle.terms.specs.Lent.{Faces, facesOf}
+use Rattle.terms.specs.Box.{Box, rootBox, boxes, shelfBoxes}
+use Rattle.terms.specs.Region.{Region, region, inside, isOpen}
 use Rattle.terms.specs.Visits.{visits}
 use Rattle.theory.specs.Boxes.{Alike}
 use Rattle.theory.specs.BoxFuel.{visits-count}
 use Rattle.theory.specs.BoxesAlike.{opens-alike}
-use Rattle.region.specs.Ranges.{KnownFaces}
+use Rattle.region.specs.Table.{Tabled, tabled, inside-tabled, open-tabled}
+use Rattle.region.specs.Ranges.{KnownTable}
 use Rattle.region.specs.Live.{AllLive}
 use Rattle.list_buffer.specs.Listed.{AllListed, listed-all}
 use Rattle.descent.specs.Slots.{runOf}
@@ -25,7 +27,7 @@ use Rattle.walk.specs.Parts.{Walkable}
 
 -- The root can be walked.
 pub walkable-root : {k : ℕ} {points : List ℤ} {order : List ℕ} {f : Faces} {b : Box} {live list : List ℕ}
-    → Rooted k points order b → KnownFaces k f → AllLive (f .h) live (f .h) → length list ≡ length order
+    → Rooted k points order b → KnownTable k f → AllLive (f .h) live (f .h) → length list ≡ length order
     → Walkable k points order f 0 (length order) 0 b live (f .h) list 0 0
 walkable-root r faces all size = record {
   standing = r .standing;
@@ -53,3 +55,16 @@ pub shelf-walked : {g : Region} {at : ℕ → ℕ → ℤ} {order : List ℕ} {b
 shelf-walked {g} {at} {order} same size w =
     let v = rw (take-length order) at w in
     record { listed = listed-all size (v .listed); visited = omega (arith, v .visits, root-opens g at order same) }
+
+-- What it does by the table of the faces is what it does by the faces.
+pub walked-by-faces : {k : ℕ} {normals table : List ℤ} (offsets : List ℤ) (marks : List ℕ) {at : ℕ → ℕ → ℤ} {order after : List ℕ} {i u : ℕ}
+    → Tabled k normals (length offsets) table → ShelfWalked (tabled k (facesOf table offsets marks)) at order after i u
+    → ShelfWalked (region k (facesOf normals offsets marks)) at order after i u
+walked-by-faces {k} offsets marks {at} {order} {after} {i} t w = record {
+  listed = subst (λ (test : (ℕ → ℤ) → Bool). AllListed (λ p. test (at p)) order after i) (inside-tabled offsets marks t) (w .listed);
+  visited =
+      w .visited
+      ∙ visits-count _ at order
+      ∙ ap (λ (test : Box → Bool). count test (shelfBoxes k at order)) (open-tabled offsets marks t)
+      ∙ sym (visits-count _ at order);
+}

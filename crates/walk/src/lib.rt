@@ -3,6 +3,7 @@ mod parts;
 
 use descent::runs::Run;
 use parts::branch;
+use region::faces::table_of;
 use region::live::all_faces;
 use terms::CornerRows;
 ghost use mathlib.Core.Path.{_≡_};
@@ -47,6 +48,7 @@ pub fn walk(
         rows: rows,
     };
     let h = offsets.len();
+    let table = table_of(k, normals, h);
     let live = all_faces(h);
     let none = Tally {
         inside: 0,
@@ -56,7 +58,7 @@ pub fn walk(
         k,
         points,
         order,
-        normals,
+        &table,
         offsets,
         marks,
         root,

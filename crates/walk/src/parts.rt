@@ -17,7 +17,8 @@ ghost use mathlib.Core.Bool.{true};
 ghost use Prim.Native.Nat.{_<_};
 ghost use Rattle.terms.specs.Lent.{facesOf};
 ghost use Rattle.terms.specs.Box.{boxOf};
-ghost use Rattle.terms.specs.Region.{region, isOpen};
+ghost use Rattle.terms.specs.Region.{isOpen};
+ghost use Rattle.region.specs.Table.{tabled};
 ghost use Rattle.walk.specs.Parts.{BranchAsks, BranchDoes};
 
 // The part for a branch: its box is judged against the faces that are live for it. A settled run goes to a list as one part of the order, an
@@ -26,7 +27,7 @@ pub fn branch(
     k: usize,
     points: &[i32],
     order: &[u32],
-    normals: &[i32],
+    table: &[i32; 128],
     offsets: &[i64],
     marks: &[u8],
     run: Run,
@@ -35,8 +36,8 @@ pub fn branch(
     list: &mut [u32],
     tally: Tally,
 ) -> Tally
-    requires { ⌜ BranchAsks k (now points) (now order) (facesOf (now normals) (now offsets) (now marks)) run (now live) count (now list) tally ⌝ }
-    ensures { λ r. ⌜ BranchDoes k (now (points .entry)) (now (order .entry)) (facesOf (now (normals .entry)) (now (offsets .entry)) (now (marks .entry))) run (now (list .entry)) (now (list .exit)) tally r ⌝ }
+    requires { ⌜ BranchAsks k (now points) (now order) (facesOf (now table) (now offsets) (now marks)) run (now live) count (now list) tally ⌝ }
+    ensures { λ r. ⌜ BranchDoes k (now (points .entry)) (now (order .entry)) (facesOf (now (table .entry)) (now (offsets .entry)) (now (marks .entry))) run (now (list .entry)) (now (list .exit)) tally r ⌝ }
 {
     let a = run.start;
     let c = run.length;
@@ -44,7 +45,7 @@ pub fn branch(
         return tally;
     }
     let mut next = [0u8; 32];
-    let judged = judge(k, run.rows, normals, offsets, marks, live, count, &mut next);
+    let judged = judge(k, run.rows, table, offsets, marks, live, count, &mut next);
     let e = a + c;
     match judged {
         Judgement::Below(_) => {
@@ -62,7 +63,7 @@ pub fn branch(
                 k,
                 points,
                 order,
-                normals,
+                table,
                 offsets,
                 marks,
                 run,
@@ -81,7 +82,7 @@ fn node(
     k: usize,
     points: &[i32],
     order: &[u32],
-    normals: &[i32],
+    table: &[i32; 128],
     offsets: &[i64],
     marks: &[u8],
     run: Run,
@@ -90,15 +91,15 @@ fn node(
     list: &mut [u32],
     mut tally: Tally,
 ) -> Tally
-    requires { ⌜ BranchAsks k (now points) (now order) (facesOf (now normals) (now offsets) (now marks)) run (now live) count (now list) tally ⌝ }
+    requires { ⌜ BranchAsks k (now points) (now order) (facesOf (now table) (now offsets) (now marks)) run (now live) count (now list) tally ⌝ }
     requires { ⌜ 0 < run .length ⌝ }
-    requires { ⌜ isOpen (region k (facesOf (now normals) (now offsets) (now marks))) (boxOf (run .rows)) ≡ true ⌝ }
-    ensures { λ r. ⌜ BranchDoes k (now (points .entry)) (now (order .entry)) (facesOf (now (normals .entry)) (now (offsets .entry)) (now (marks .entry))) run (now (list .entry)) (now (list .exit)) tally r ⌝ }
+    requires { ⌜ isOpen (tabled k (facesOf (now table) (now offsets) (now marks))) (boxOf (run .rows)) ≡ true ⌝ }
+    ensures { λ r. ⌜ BranchDoes k (now (points .entry)) (now (order .entry)) (facesOf (now (table .entry)) (now (offsets .entry)) (now (marks .entry))) run (now (list .entry)) (now (list .exit)) tally r ⌝ }
 {
     let middle = run.start + run.length / 2;
     let p = order[middle];
     let x = point_at(k, points, p as usize);
-    let inside = inside_live(k, x, normals, offsets, marks, live, count);
+    let inside = inside_live(k, x, table, offsets, marks, live, count);
     tally.visits += 1;
     if run.length == 1 {
         tally.inside = place(p, inside, list, middle, tally.inside);
@@ -112,7 +113,7 @@ fn node(
         k,
         points,
         order,
-        normals,
+        table,
         offsets,
         marks,
         left,
@@ -127,7 +128,7 @@ fn node(
         k,
         points,
         order,
-        normals,
+        table,
         offsets,
         marks,
         right,

@@ -45,6 +45,16 @@ unfolding sumTo
 sum-zero zero f h = refl
 sum-zero (suc k) f h = rw (sum-zero k f (λ d l. h d (omega arith)), h k (omega arith))
 
+-- where every term from k on is 0, those from k on add nothing
+pub sum-rest : (n k : ℕ) (f : ℕ → ℤ) → k ≤ n → ((d : ℕ) → k ≤ d → d < n → f d ≡ pos 0) → sumTo n f ≡ sumTo k f
+unfolding sumTo
+sum-rest zero k f l h = let e : k ≡ 0 = omega arith in rw e
+sum-rest (suc n) k f l h = go (ℕ-discrete k (suc n)) (λ m. sum-rest n k f m (λ d a b. h d a (omega arith)))
+  where
+    go : Dec (k ≡ suc n) → (k ≤ n → sumTo n f ≡ sumTo k f) → sumTo n f +ℤ f n ≡ sumTo k f
+    go (yes e) ih = rw e
+    go (no m) ih = rw (h n (omega arith) (omega arith)) (add-zero (sumTo n f) ∙ ih (omega arith))
+
 -- where every term but the one at a is 0, the sum is that term
 pub sum-single : (k a : ℕ) (f : ℕ → ℤ) → a < k → ((d : ℕ) → d < k → d ≢ a → f d ≡ pos 0) → sumTo k f ≡ f a
 unfolding sumTo

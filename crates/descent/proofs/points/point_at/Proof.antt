@@ -21,7 +21,7 @@ mul-start : tie.Need-mul-start Inv-loop μ-loop
 mul-start c = omega arith
 
 loop-holds : tie.Need-loop-holds Inv-loop μ-loop
-loop-holds c = filled-none _ _ _ refl
+loop-holds c = filled-none _ _
 
 add-x : tie.Need-add-x Inv-loop μ-loop
 add-x c = omega arith
@@ -49,7 +49,7 @@ loop-again c =
     let f = c .before .before .loop .inv in
     let l = c .before .loop-test .taken in
     ⊎-elim
-    (λ w. rw (w .2, toZ-ofZ (sfits-mag (w .1 .given))) (filled-next f l _ refl))
+    (λ w. rw (w .2, toZ-ofZ (sfits-mag (w .1 .given))) (filled-next f l (w .0 .taken) _ refl))
     (λ w. rw (w .1) (filled-over f l (w .0 .left)))
     (c .if1 .came)
 

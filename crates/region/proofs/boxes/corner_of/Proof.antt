@@ -1,46 +1,41 @@
--- `corner_of` meets its contract. After d turns those of the first d places that are below k are the corner's.
-use mathlib.Core.Path.{refl}
-use mathlib.Core.Logic.{⊎-elim}
+-- `corner_of` meets its contract. After d turns the first d places are the corner's.
 use Prim.Native.Nat.{_-_}
 use native.Mathlib.Omega.{arith}
 use borrow.Author.Needs.{sfits-of, needs}
 use mir.Facts.{toZ-ofZ}
 use Rattle.whole.specs.Fits.{sfits-mag}
 use Rattle.terms.specs.Points.{lone}
-use Rattle.region.specs.FourDimensions.{FilledTo, filled-none, filled-next, filled-over, filled-all}
+use Rattle.region.specs.FourDimensions.{FilledTo, filled-none, filled-next, filled-all}
 use Rattle.region.specs.Corners.{corner}
 use Rattle.region.proofs.boxes.corner_of.Statement.{statement}
 use Rattle.region.proofs.boxes.corner_of.Tie as tie
 
 abbrev Inv-loop : tie.InvT-loop
-Inv-loop k normals at first second chosen₀ d₀ chosen d = FilledTo k (corner (lone first) (lone second) normals at) d chosen
+Inv-loop first second row chosen₀ d₀ chosen d = FilledTo 4 (corner (lone first) (lone second) (lone row)) d chosen
 
 abbrev μ-loop : tie.MeasureT-loop
-μ-loop k normals at first second chosen₀ d₀ chosen d = 4 - d
+μ-loop first second row chosen₀ d₀ chosen d = 4 - d
 
 loop-holds : tie.Need-loop-holds Inv-loop μ-loop
-loop-holds c = filled-none _ _ _ refl
-
-add-by-sign : tie.Need-add-by-sign Inv-loop μ-loop
-add-by-sign c = omega arith
+loop-holds c = filled-none _ _
 
 mul-by-sign : tie.Need-mul-by-sign Inv-loop μ-loop
 mul-by-sign c = omega arith
 
-shared-slice-copy-out-by-sign : tie.Need-shared-slice-copy-out-by-sign Inv-loop μ-loop
-shared-slice-copy-out-by-sign c = omega arith
+array-copy-out-by-sign : tie.Need-array-copy-out-by-sign Inv-loop μ-loop
+array-copy-out-by-sign c = omega arith
 
 mul-by-sign-2 : tie.Need-mul-by-sign-2 Inv-loop μ-loop
 mul-by-sign-2 c = omega arith
 
-array-copy-out-by-sign : tie.Need-array-copy-out-by-sign Inv-loop μ-loop
-array-copy-out-by-sign c = omega arith
+array-copy-out-by-sign-2 : tie.Need-array-copy-out-by-sign-2 Inv-loop μ-loop
+array-copy-out-by-sign-2 c = omega arith
 
 mul-by-sign-3 : tie.Need-mul-by-sign-3 Inv-loop μ-loop
 mul-by-sign-3 c = omega arith
 
-array-copy-out-by-sign-2 : tie.Need-array-copy-out-by-sign-2 Inv-loop μ-loop
-array-copy-out-by-sign-2 c = omega arith
+array-copy-out-by-sign-3 : tie.Need-array-copy-out-by-sign-3 Inv-loop μ-loop
+array-copy-out-by-sign-3 c = omega arith
 
 by-sign-requires : tie.Need-by-sign-requires Inv-loop μ-loop
 by-sign-requires c κs = search needs
@@ -59,18 +54,14 @@ loop-less c = omega arith
 
 loop-again : tie.Need-loop-again Inv-loop μ-loop
 loop-again c =
-    let f = c .before .before .loop .inv in
-    let l = c .before .loop-test .taken in
-    ⊎-elim
-    (λ w.
-    rw (w .5, toZ-ofZ (sfits-of (w .4 .ok)))
-    (filled-next f l _
-    (rw (w .4 .ensures, toZ-ofZ (sfits-mag (w .1 .given)), toZ-ofZ (sfits-mag (w .2 .given)), toZ-ofZ (sfits-mag (w .3 .given))))))
-    (λ w. rw (w .1) (filled-over f l (w .0 .left)))
-    (c .if1 .came)
+    let b = c .before .before .before in
+    let l = b .before .loop-test .taken in
+    rw (toZ-ofZ (sfits-of (c .by-sign .ok)))
+    (filled-next (b .before .before .loop .inv) l l _
+    (rw (c .by-sign .ensures, toZ-ofZ (sfits-mag (b .by-sign-arg .given)), toZ-ofZ (sfits-mag (c .before .before .by-sign-arg2 .given)), toZ-ofZ (sfits-mag (c .before .by-sign-arg3 .given)))))
 
 returns : tie.Need-returns Inv-loop μ-loop
-returns c = filled-all (c .before .loop .inv) (c .before .before .pre .few) (c .loop-test .left)
+returns c = filled-all (c .before .loop .inv) (omega arith) (c .loop-test .left)
 
 pub corner-of-spec : {M : Type 1} → statement M
 corner-of-spec =
@@ -79,13 +70,12 @@ corner-of-spec =
     Inv-loop
     μ-loop
     loop-holds
-    add-by-sign
     mul-by-sign
-    shared-slice-copy-out-by-sign
-    mul-by-sign-2
     array-copy-out-by-sign
-    mul-by-sign-3
+    mul-by-sign-2
     array-copy-out-by-sign-2
+    mul-by-sign-3
+    array-copy-out-by-sign-3
     by-sign-requires
     mul-chosen
     array-set-from-chosen

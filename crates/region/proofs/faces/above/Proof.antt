@@ -28,10 +28,10 @@ add-result c =
 
 returns : tie.Need-returns
 unfolding aboveAt
-returns c k normals =
+returns c g w =
     let s = c .before .before in
     let a = s .args in
-    rw (toZ-ofZ (add-result c), toZ-ofZ (sfits-mag (c .result .given)), toZ-ofZ (s .fits .sum))
+    rw (w .offset, w .mark, toZ-ofZ (add-result c), toZ-ofZ (sfits-mag (c .result .given)), toZ-ofZ (s .fits .sum))
     (marked-at-most (getD (a .offsets .now) (a .i) (pos 0)) (a .sum) (getD (a .marks .now) (a .i) 0) (s .pre .mark-range))
 
 pub above-spec : {M : Type 1} → statement M

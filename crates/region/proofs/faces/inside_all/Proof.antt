@@ -1,14 +1,18 @@
 -- `inside_all` meets its contract. After i turns the point is above the first i faces.
-use mathlib.Core.Path.{_≡_, sym, _∙_}
+use mathlib.Core.Path.{_≡_, refl, sym, ap, _∙_}
 use mathlib.Core.Bool.{true}
 use Prim.Native.Nat.{ℕ, _≤_, _<_, _-_}
 use native.Mathlib.Omega.{arith}
 use borrow.Author.Count.{below-more}
+use borrow.Author.Needs.{sfits-of}
+use mir.Facts.{toZ-ofZ}
 use Rattle.terms.specs.Lent.{facesOf}
 use Rattle.terms.specs.Points.{lone}
-use Rattle.terms.specs.Region.{region, above, inside}
+use Rattle.terms.specs.Region.{region, reach, aboveAt, above, inside}
 use Rattle.theory.specs.Flags.{not-true, not-false}
 use Rattle.theory.specs.AllAndAny.{each-all, one-all-false}
+use Rattle.region.specs.Table.{sum-same-normal}
+use Rattle.region.specs.Ranges.{has-normal, known-row, known-marked}
 use Rattle.region.proofs.faces.inside_all.Statement.{statement}
 use Rattle.region.proofs.faces.inside_all.Tie as tie
 
@@ -22,15 +26,35 @@ abbrev μ-loop : tie.MeasureT-loop
 loop-holds : tie.Need-loop-holds Inv-loop μ-loop
 loop-holds c = (omega arith, λ j l. absurd (omega arith))
 
-point-above-requires : tie.Need-point-above-requires Inv-loop μ-loop
-point-above-requires c κs = let s = c .before .before in (s .before .pre .0, record { all = s .before .pre .1; known = c .loop-test .taken })
+normal-at-requires : tie.Need-normal-at-requires Inv-loop μ-loop
+normal-at-requires c κs =
+    let s = c .before .before .before in
+    let w = s .pre .1 in
+    has-normal {normals = s .args .normals .now} (w .few) (w .tested .normals-size) (c .loop-test .taken)
+
+sum-requires : tie.Need-sum-requires Inv-loop μ-loop
+sum-requires c κs = let s = c .before .before .before .before in (s .pre .0, known-row (s .pre .1) (c .before .loop-test .taken) (c .normal-at .ensures))
+
+above-requires : tie.Need-above-requires Inv-loop μ-loop
+above-requires c κs = known-marked (c .before .before .before .before .before .pre .1) (c .before .before .loop-test .taken)
+
+-- The test of this turn's face says what the word says.
+told : (c : tie.After-above Inv-loop μ-loop) →
+    let a = c .before .before .before .before .before .before .args in
+    c .above .result ≡ above (region (a .k) (facesOf (a .normals .now) (a .offsets .now) (a .marks .now))) (c .before .before .before .before .loop .i) (lone (a .x))
+told c =
+    let a = c .before .before .before .before .before .before .args in
+    let i = c .before .before .before .before .loop .i in
+    let g = region (a .k) (facesOf (a .normals .now) (a .offsets .now) (a .marks .now)) in
+    let reached : c .before .sum .result ≡ reach g i (lone (a .x)) = c .before .sum .ensures ∙ sum-same-normal (c .before .before .normal-at .ensures .same) (lone (a .x)) in
+    c .above .ensures g (record { offset = refl; mark = refl }) ∙ ap (aboveAt g i) (toZ-ofZ (sfits-of (c .before .sum .ok)) ∙ reached)
 
 returns : tie.Need-returns Inv-loop μ-loop
 unfolding inside
 returns c =
-    let b = c .before .before in
-    let no = not-true (c .before .point-above .result) (c .if1 .taken) in
-    sym (one-all-false _ _ (b .before .loop .i, b .loop-test .taken, sym (c .before .point-above .ensures) ∙ no))
+    let b = c .before .before .before .before in
+    let no = not-true (c .before .above .result) (c .if1 .taken) in
+    sym (one-all-false _ _ (b .before .loop .i, b .loop-test .taken, sym (told (c .before)) ∙ no))
 
 add-i : tie.Need-add-i Inv-loop μ-loop
 add-i c = omega arith
@@ -40,9 +64,9 @@ loop-less c = omega arith
 
 loop-again : tie.Need-loop-again Inv-loop μ-loop
 loop-again c =
-    let b = c .before .before in
-    let yes = not-false (c .before .point-above .result) (c .if1 .left) in
-    (omega arith, below-more _ (b .before .loop .i) (b .before .loop .inv .1) (sym (c .before .point-above .ensures) ∙ yes))
+    let b = c .before .before .before .before in
+    let yes = not-false (c .before .above .result) (c .if1 .left) in
+    (omega (arith, b .loop-test .taken), below-more _ (b .before .loop .i) (b .before .loop .inv .1) (sym (told (c .before)) ∙ yes))
 
 returns-2 : tie.Need-returns-2 Inv-loop μ-loop
 unfolding inside
@@ -55,7 +79,9 @@ inside-all-spec =
     Inv-loop
     μ-loop
     loop-holds
-    point-above-requires
+    normal-at-requires
+    sum-requires
+    above-requires
     returns
     add-i
     loop-less

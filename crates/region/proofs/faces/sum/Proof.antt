@@ -1,76 +1,79 @@
--- `sum` meets its contract. After d turns the total is the sum of the products of those of the first d places that are below k; each such sum fits.
-use mathlib.Core.Logic.{⊎-elim}
+-- `sum` meets its contract. After d turns the total is the sum of the first d products, and each such sum fits; those from k on add nothing.
+use mathlib.Core.Path.{_≡_, refl, ap, _∙_}
 use Prim.Native.Nat.{_+_, _≤_, _-_}
 use native.Mathlib.Omega.{arith}
 use lib.ListN.{getD}
-use lib.IntN.{ℤ, pos}
+use lib.IntN.{ℤ, pos, _+ℤ_}
+use borrow.Author.Needs.{needs}
 use mir.Syntax.{w32, w64}
-use mir.Val.{SFits, toZ, ofZ}
+use mir.Val.{SFits, toZ}
 use mir.Facts.{toZ-ofZ}
 use Rattle.whole.specs.Fits.{sfits-mag, widen, wide-back}
+use Rattle.whole.specs.IndexedSum.{sumTo, sum-next}
 use Rattle.terms.specs.Points.{lone}
-use Rattle.region.specs.FourDimensions.{SummedTo, summed-none, summed-next, summed-over}
-use Rattle.region.specs.Ranges.{products, product-fits, sum-fits}
+use Rattle.region.specs.Table.{products}
+use Rattle.region.specs.Ranges.{product-fits, sum-fits, sum-of-four}
 use Rattle.region.proofs.faces.sum.Statement.{statement}
 use Rattle.region.proofs.faces.sum.Tie as tie
 
 abbrev Inv-loop : tie.InvT-loop
-Inv-loop k normals at x total₀ d₀ total d = SummedTo k (products normals at (lone x)) d (toZ w64 total)
+Inv-loop k x row total₀ d₀ total d = (d ≤ 4) × (toZ w64 total ≡ sumTo d (products (lone row) (lone x)))
 
 abbrev μ-loop : tie.MeasureT-loop
-μ-loop k normals at x total₀ d₀ total d = 4 - d
+μ-loop k x row total₀ d₀ total d = 4 - d
 
 loop-holds : tie.Need-loop-holds Inv-loop μ-loop
-loop-holds c = summed-none _ _
-
-add-total : tie.Need-add-total Inv-loop μ-loop
-add-total c = omega arith
+unfolding sumTo
+loop-holds c = (omega arith, refl)
 
 mul-total : tie.Need-mul-total Inv-loop μ-loop
 mul-total c = omega arith
 
-shared-slice-copy-out-total : tie.Need-shared-slice-copy-out-total Inv-loop μ-loop
-shared-slice-copy-out-total c = omega arith
-
--- The component and the coordinate of this turn, as they were read.
-component : (c : tie.After-total Inv-loop μ-loop)
-    → SFits w32
-    (getD (c .before .before .before .before .args .normals .now) (c .before .before .before .before .args .at + c .before .before .before .loop .d) (pos 0))
-component c = sfits-mag (c .total .given)
-
-coordinate : (c : tie.After-total2 Inv-loop μ-loop)
-    → SFits w32 (getD (c .before .before .before .before .before .args .t2) (c .before .before .before .before .loop .d) (pos 0))
-coordinate c = sfits-mag (c .total2 .given)
-
--- A number that was read back fits the wider type too.
-widened : {z : ℤ} → SFits w32 z → SFits w64 (toZ w32 (ofZ w32 z))
-widened f = rw (toZ-ofZ f) (widen f)
+array-copy-out-total : tie.Need-array-copy-out-total Inv-loop μ-loop
+array-copy-out-total c = omega arith
 
 cast-total : tie.Need-cast-total Inv-loop μ-loop
-cast-total c = widened (component c)
+cast-total c = search (needs, widen)
 
 mul-total-2 : tie.Need-mul-total-2 Inv-loop μ-loop
 mul-total-2 c = omega arith
 
-array-copy-out-total : tie.Need-array-copy-out-total Inv-loop μ-loop
-array-copy-out-total c = omega arith
+array-copy-out-total-2 : tie.Need-array-copy-out-total-2 Inv-loop μ-loop
+array-copy-out-total-2 c = omega arith
 
 cast-total-2 : tie.Need-cast-total-2 Inv-loop μ-loop
-cast-total-2 c = widened (coordinate c)
+cast-total-2 c = search (needs, widen)
+
+-- The component and the coordinate of this turn, as they were read.
+component : (c : tie.After-total2 Inv-loop μ-loop)
+    → SFits w32 (getD (c .before .before .before .before .args .t3) (c .before .before .before .loop .d) (pos 0))
+component c = sfits-mag (c .before .total .given)
+
+coordinate : (c : tie.After-total2 Inv-loop μ-loop)
+    → SFits w32 (getD (c .before .before .before .before .args .t2) (c .before .before .before .loop .d) (pos 0))
+coordinate c = sfits-mag (c .total2 .given)
 
 mul-total-3 : tie.Need-mul-total-3 Inv-loop μ-loop
 mul-total-3 c =
-    let s = c .before .before .before .before .before .pre in
-    rw (wide-back w64 tt (component (c .before)), wide-back w64 tt (coordinate c))
-    (product-fits (s .0) (s .1) (c .before .before .before .before .loop .d) (c .before .before .if1 .taken))
+    let s = c .before .before .before .before .pre in
+    rw (wide-back w64 tt (component c), wide-back w64 tt (coordinate c))
+    (product-fits (s .1) (s .0) (c .before .before .before .loop .d) (c .before .before .loop-test .taken))
 
-add-total-2 : tie.Need-add-total-2 Inv-loop μ-loop
-add-total-2 c =
-    let s = c .before .before .before .before .before .pre in
-    let l = c .before .before .before .before .loop in
-    let next = summed-next (l .inv) (c .before .before .before .loop-test .taken) (c .before .before .if1 .taken) in
-    rw (toZ-ofZ (mul-total-3 c), wide-back w64 tt (component (c .before)), wide-back w64 tt (coordinate c), next .before-k (omega arith))
-    (sum-fits (s .0) (s .1) (l .d + 1) (omega arith))
+-- One product more.
+next : (c : tie.After-total2 Inv-loop μ-loop) →
+    let a = c .before .before .before .before .args in
+    let l = c .before .before .before .loop in
+    toZ w64 (l .total) +ℤ products (lone (a .t3)) (lone (a .t2)) (l .d) ≡ sumTo (l .d + 1) (products (lone (a .t3)) (lone (a .t2)))
+next c =
+    let a = c .before .before .before .before .args in
+    let l = c .before .before .before .loop in
+    ap (λ (z : ℤ). z +ℤ products (lone (a .t3)) (lone (a .t2)) (l .d)) (l .inv .1) ∙ sum-next (l .d) (products (lone (a .t3)) (lone (a .t2)))
+
+add-total : tie.Need-add-total Inv-loop μ-loop
+add-total c =
+    let s = c .before .before .before .before .pre in
+    rw (toZ-ofZ (mul-total-3 c), wide-back w64 tt (component c), wide-back w64 tt (coordinate c), next c)
+    (sum-fits (s .1) (s .0) (c .before .before .before .loop .d + 1) (omega (arith, c .before .before .loop-test .taken)))
 
 add-d : tie.Need-add-d Inv-loop μ-loop
 add-d c = omega arith
@@ -80,21 +83,13 @@ loop-less c = omega arith
 
 loop-again : tie.Need-loop-again Inv-loop μ-loop
 loop-again c =
-    let s = c .before .before .loop .inv in
-    let l = c .before .loop-test .taken in
-    ⊎-elim
-    (λ w.
-    let t : tie.After-total2 Inv-loop μ-loop =
-    record { before = record { before = record { before = c .before; if1 = w .0 }; total = w .1 }; total2 = w .2 } in
-    rw (w .3, toZ-ofZ (add-total-2 t), toZ-ofZ (mul-total-3 t), wide-back w64 tt (component (t .before)), wide-back w64 tt (coordinate t))
-    (summed-next s l (w .0 .taken)))
-    (λ w. rw (w .1) (summed-over s l (w .0 .left)))
-    (c .if1 .came)
+    (omega (arith, c .before .before .loop-test .taken), rw (toZ-ofZ (add-total c), toZ-ofZ (mul-total-3 c), wide-back w64 tt (component c), wide-back w64 tt (coordinate c)) (next c))
 
 returns : tie.Need-returns Inv-loop μ-loop
 returns c =
-    let few : c .before .before .args .k ≤ 4 = c .before .before .pre .1 .few in
-    c .before .loop .inv .from-k (omega arith)
+    let s = c .before .before .pre in
+    let four : c .before .loop .d ≡ 4 = omega (arith, c .before .loop .inv .0, c .loop-test .left) in
+    rw four at (c .before .loop .inv .1) ∙ sum-of-four (s .1) (s .0)
 
 pub sum-spec : {M : Type 1} → statement M
 sum-spec =
@@ -103,15 +98,14 @@ sum-spec =
     Inv-loop
     μ-loop
     loop-holds
-    add-total
     mul-total
-    shared-slice-copy-out-total
+    array-copy-out-total
     cast-total
     mul-total-2
-    array-copy-out-total
+    array-copy-out-total-2
     cast-total-2
     mul-total-3
-    add-total-2
+    add-total
     add-d
     loop-less
     loop-again

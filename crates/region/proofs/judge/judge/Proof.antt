@@ -5,19 +5,19 @@ use native.Mathlib.Omega.{arith}
 use lib.ListN.{getD}
 use Rattle.terms.specs.Lent.{facesOf}
 use Rattle.terms.specs.Box.{boxOf}
-use Rattle.terms.specs.Region.{region}
 use Rattle.theory.specs.Flags.{not-true, not-false}
-use Rattle.region.specs.Ranges.{HasFace}
+use Rattle.region.specs.Table.{tabled}
+use Rattle.region.specs.Ranges.{HasRow}
 use Rattle.region.specs.Judged.{Judging, judging-none, judging-cut, judging-above, judging-left, judging-done-above, judging-done-open}
 use Rattle.region.proofs.judge.judge.Statement.{statement}
 use Rattle.region.proofs.judge.judge.Tie as tie
 
 abbrev Inv-loop : tie.InvT-loop
-Inv-loop k rows normals offsets marks live count next₀ left₀ t₀ next left t =
-    Judging (region k (facesOf normals offsets marks)) (boxOf rows) live count next left t
+Inv-loop k rows table offsets marks live count next₀ left₀ t₀ next left t =
+    Judging (tabled k (facesOf table offsets marks)) (boxOf rows) live count next left t
 
 abbrev μ-loop : tie.MeasureT-loop
-μ-loop k rows normals offsets marks live count next₀ left₀ t₀ next left t = count - t
+μ-loop k rows table offsets marks live count next₀ left₀ t₀ next left t = count - t
 
 loop-holds : tie.Need-loop-holds Inv-loop μ-loop
 loop-holds c = judging-none _ _ _ _ _ (c .before .pre .1 .1 .1)
@@ -27,14 +27,14 @@ element-copy-out-f c = omega arith
 
 -- The face at hand is one of the faces.
 face-known : (c : tie.In-loop Inv-loop μ-loop)
-    → HasFace (c .before .before .before .args .k) (facesOf (c .before .before .before .args .normals .now) (c .before .before .before .args .offsets .now) (c .before .before .before .args .marks .now))
+    → HasRow (c .before .before .before .args .k) (facesOf (c .before .before .before .args .table .now) (c .before .before .before .args .offsets .now) (c .before .before .before .args .marks .now))
     (getD (c .before .before .before .args .live .now) (c .before .loop .t) 0)
 face-known c =
     let s = c .before .before in
     record { all = s .before .pre .1 .0; known = s .before .pre .1 .1 .0 .live .each (c .before .loop .t) (c .loop-test .taken) }
 
 cast-i : tie.Need-cast-i Inv-loop μ-loop
-cast-i c = omega (arith, face-known (c .before) .known, c .before .before .before .before .pre .1 .0 .tested)
+cast-i c = omega (arith, face-known (c .before) .known, c .before .before .before .before .pre .1 .0 .many)
 
 wholly-above-requires : tie.Need-wholly-above-requires Inv-loop μ-loop
 wholly-above-requires c κs = (c .before .before .before .before .pre .0, face-known (c .before))

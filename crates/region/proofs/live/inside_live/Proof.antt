@@ -7,18 +7,19 @@ use lib.ListN.{getD}
 use borrow.Author.Count.{below-more}
 use Rattle.terms.specs.Lent.{facesOf}
 use Rattle.terms.specs.Points.{lone}
-use Rattle.terms.specs.Region.{region, above}
+use Rattle.terms.specs.Region.{above}
 use Rattle.theory.specs.Flags.{not-true, not-false}
+use Rattle.region.specs.Table.{tabled}
 use Rattle.region.specs.Live.{live-inside, live-outside}
 use Rattle.region.proofs.live.inside_live.Statement.{statement}
 use Rattle.region.proofs.live.inside_live.Tie as tie
 
 abbrev Inv-loop : tie.InvT-loop
-Inv-loop k x normals offsets marks live count t₀ t =
-    (t ≤ count) × ((s : ℕ) → s < t → above (region k (facesOf normals offsets marks)) (getD live s 0) (lone x) ≡ true)
+Inv-loop k x table offsets marks live count t₀ t =
+    (t ≤ count) × ((s : ℕ) → s < t → above (tabled k (facesOf table offsets marks)) (getD live s 0) (lone x) ≡ true)
 
 abbrev μ-loop : tie.MeasureT-loop
-μ-loop k x normals offsets marks live count t₀ t = count - t
+μ-loop k x table offsets marks live count t₀ t = count - t
 
 loop-holds : tie.Need-loop-holds Inv-loop μ-loop
 loop-holds c = (omega arith, λ s l. absurd (omega arith))
@@ -29,7 +30,7 @@ element-copy-out-point-above c = omega arith
 cast-point-above : tie.Need-cast-point-above Inv-loop μ-loop
 cast-point-above c =
     let s = c .before .before .before in
-    omega (arith, s .before .pre .1 .1 .each (c .before .before .loop .t) (c .before .loop-test .taken), s .before .pre .1 .0 .tested)
+    omega (arith, s .before .pre .1 .1 .each (c .before .before .loop .t) (c .before .loop-test .taken), s .before .pre .1 .0 .many)
 
 point-above-requires : tie.Need-point-above-requires Inv-loop μ-loop
 point-above-requires c κs =

@@ -12,7 +12,8 @@ use Rattle.terms.specs.Lent.{facesOf}
 use Rattle.terms.specs.Points.{coord}
 use Rattle.terms.specs.Run.{axis}
 use Rattle.terms.specs.Box.{boxOf, leftBox, rightBox}
-use Rattle.terms.specs.Region.{region, inside}
+use Rattle.terms.specs.Region.{inside}
+use Rattle.region.specs.Table.{tabled}
 use Rattle.region.specs.Judged.{judged-below, judged-open}
 use Rattle.descent.specs.Points.{point-told}
 use Rattle.descent.specs.Slots.{ownOf}
@@ -82,7 +83,7 @@ module _ (t : ℕ) where
   branch-returns : branch-lts.Need-returns branch-calls branch-at branch.Post
   branch-returns c =
       let a = c .before .before .before .before .args in
-      screened-empty (a .k) (a .points .now) (a .order .now) (facesOf (a .normals .now) (a .offsets .now) (a .marks .now)) (a .run .start) (a .run .length) _ _ _ _ (c .if1 .taken)
+      screened-empty (a .k) (a .points .now) (a .order .now) (facesOf (a .table .now) (a .offsets .now) (a .marks .now)) (a .run .start) (a .run .length) _ _ _ _ (c .if1 .taken)
 
   branch-judge-requires : branch-lts.Need-judge-requires branch-calls branch-at branch.Post
   branch-judge-requires c κs =
@@ -196,7 +197,7 @@ module _ (t : ℕ) where
   -- Past the left branch, which has none inside: it said so, or there is no left branch.
   left-past : (c : node-lts.Joined1 node-calls node-at node.Post) →
       let a = c .before .before .before .before .before .before .before .before .before .args in
-      LeftNone (a .k) (a .points .now) (a .order .now) (facesOf (a .normals .now) (a .offsets .now) (a .marks .now)) (a .run .start) (a .run .length) (a .run .axis) (boxOf (a .run .rows)) (a .visits) (c .if1 .seen)
+      LeftNone (a .k) (a .points .now) (a .order .now) (facesOf (a .table .now) (a .offsets .now) (a .marks .now)) (a .run .start) (a .run .length) (a .run .axis) (boxOf (a .run .rows)) (a .visits) (c .if1 .seen)
   left-past c =
       let s = c .before .before .before .before .before .before .before .before .before .pre .1 in
       ⊎-elim
@@ -226,7 +227,7 @@ module _ (t : ℕ) where
   told : (c : node-lts.After-inside-live node-calls node-at node.Post) →
       let a = c .before .before .before .before .before .before .before .before .before .before .before .before .args in
       let p = ownOf (a .order .now) (a .run .start) (a .run .length) in
-      c .inside-live .result ≡ inside (region (a .k) (facesOf (a .normals .now) (a .offsets .now) (a .marks .now))) (coord (a .k) (a .points .now) p)
+      c .inside-live .result ≡ inside (tabled (a .k) (facesOf (a .table .now) (a .offsets .now) (a .marks .now))) (coord (a .k) (a .points .now) p)
   told c =
       let s = c .before .before .before .before .before .before .before .before .before .before .before .before .pre .1 in
       point-told (c .before .point-at .ensures) (c .inside-live .ensures) .tells (s .0 .faced .lives) (own-held (s .0) (s .1 .0))
