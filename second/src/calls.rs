@@ -2,6 +2,7 @@
 
 use crate::found::{found_number, visits_of_screen};
 use crate::lists::{inside_and_outside, places};
+use crate::margin::{face_of_margin, margin};
 use crate::order::built_order;
 use crate::refusals;
 use crate::region::{faces, inside};
@@ -27,11 +28,15 @@ pub struct Screening {
     pub visits: u32,
 }
 
-/// The answer of the one-point test: inside is 1 or 0, and 0 on a refusal.
+/// The answer of the one-point test: inside is 1 or 0, and measured is 0 where
+/// there are no faces, with face and margin 0; on a refusal all but the code is 0.
 #[derive(Clone, Copy, Debug, Default, PartialEq, Eq)]
 pub struct Placing {
     pub code: u32,
     pub inside: u32,
+    pub measured: u32,
+    pub face: u16,
+    pub margin: i64,
 }
 
 /// Writes the order of the points into the first `n` places of `order`.
@@ -113,7 +118,8 @@ pub fn screen(
     }
 }
 
-/// Tests one point against a region.
+/// Tests one point against a region, and says by how much: the margin and its
+/// face, or that there are no faces.
 pub fn place(
     k: usize,
     h: usize,
@@ -124,12 +130,18 @@ pub fn place(
 ) -> Placing {
     let code = refusals::of_place(k, h, point, normals, offsets, marks);
     if code != 0 {
-        return Placing { code, inside: 0 };
+        return Placing {
+            code,
+            ..Placing::default()
+        };
     }
-    let within = inside(&faces(k, h, normals, offsets, marks), point);
+    let faces = faces(k, h, normals, offsets, marks);
     Placing {
         code: 0,
-        inside: u32::from(within),
+        inside: u32::from(inside(&faces, point)),
+        measured: u32::from(!faces.is_empty()),
+        face: face_of_margin(&faces, point).unwrap_or(0) as u16,
+        margin: margin(&faces, point).unwrap_or(0) as i64,
     }
 }
 

@@ -5,6 +5,7 @@ pub mod bound;
 pub mod calls;
 pub mod found;
 pub mod lists;
+pub mod margin;
 pub mod order;
 pub mod refusals;
 pub mod region;

@@ -1,5 +1,7 @@
 //! Faces, regions and the boxes of branches.
 
+use std::cmp::Ordering;
+
 /// The mark of a closed face: it owns the points on it.
 pub const CLOSED: u8 = 0;
 
@@ -38,14 +40,19 @@ pub fn sum_of_products(normal: &[i32], x: &[i32]) -> i128 {
     products.map(|(&a, &b)| i128::from(a) * i128::from(b)).sum()
 }
 
-/// Whether the point is above the face: the sum is at least the offset, and for
-/// an open face "strictly greater", "for points and for box corners alike".
+/// The distance number of the point from the face: "the sum of products minus
+/// m", with its sign.
+pub fn distance_number(face: &Face, x: &[i32]) -> i128 {
+    sum_of_products(&face.normal, x) - i128::from(face.offset)
+}
+
+/// Whether the point is above the face: "Negative is below; zero is on the face,
+/// above it if closed and below it if open". A box corner is tested as a point is.
 pub fn above(face: &Face, x: &[i32]) -> bool {
-    let sum = sum_of_products(&face.normal, x);
-    let m = i128::from(face.offset);
-    match face.mark == OPEN {
-        true => sum > m,
-        false => sum >= m,
+    match distance_number(face, x).cmp(&0) {
+        Ordering::Less => false,
+        Ordering::Equal => face.mark == CLOSED,
+        Ordering::Greater => true,
     }
 }
 

@@ -250,7 +250,10 @@ fn check_refuses_strange_numbers() {
 /// The one-point test refuses in rising order; its 11 comes last.
 #[test]
 fn place_refuses_in_rising_order() {
-    let refusal = |code| Placing { code, inside: 0 };
+    let refusal = |code| Placing {
+        code,
+        ..Placing::default()
+    };
     assert_eq!(place(5, 33, &[32_768], &[-32_768], &[], &[2]), refusal(1));
     assert_eq!(place(2, 33, &[32_768], &[-32_768], &[], &[2]), refusal(3));
     assert_eq!(place(1, 33, &[32_768], &[-32_768], &[], &[2]), refusal(5));
@@ -258,9 +261,13 @@ fn place_refuses_in_rising_order() {
     assert_eq!(place(1, 1, &[0], &[-32_768], &[], &[2]), refusal(7));
     assert_eq!(place(1, 1, &[0], &[-32_768], &[0], &[2]), refusal(8));
     assert_eq!(place(1, 1, &[0], &[-32_767], &[0], &[2]), refusal(11));
-    let done = Placing { code: 0, inside: 1 };
-    assert_eq!(place(1, 1, &[0], &[-32_767], &[0], &[0]), done);
-    assert_eq!(place(1, 0, &[0], &[], &[], &[]), done);
+    let done = |measured| Placing {
+        inside: 1,
+        measured,
+        ..Placing::default()
+    };
+    assert_eq!(place(1, 1, &[0], &[-32_767], &[0], &[0]), done(1));
+    assert_eq!(place(1, 0, &[0], &[], &[], &[]), done(0));
 }
 
 /// Coordinates, components and offsets, on both sides of both limits.
