@@ -5,7 +5,7 @@
  *   hornherder_check     says whether an order is that shelf
  *   hornherder_list      lists the points inside and outside a region, by way of the shelf
  *   hornherder_screen    says whether any point is inside a region, and which is the first
- *   hornherder_place     tests one point against a region
+ *   hornherder_place     tests one point against a region, and says by how much
  *   hornherder_version   says to which version of this file the library belongs
  *
  * Points. A point is k whole numbers. The n points are numbered 0 to n - 1 and lent one after the
@@ -24,6 +24,10 @@
  * above an open one when that sum is strictly greater; so a point on a face is above it exactly
  * where the face is closed. A point is inside when it is above every face, else outside. With no
  * faces every point is inside. A normal of all zeros is allowed.
+ *
+ * Margins. The margin of a point to a face is that sum less offsets[f]. Negative is below the face;
+ * zero is on it, which is above a closed face and below an open one; positive is above. It is not a
+ * length: a normal and an offset that are twice as large give twice the margin.
  *
  * Regions side by side. Give one of them the face between them closed, and the other the same face
  * open, with its normal and its offset negated: every point is then above exactly one of the two.
@@ -72,7 +76,7 @@ extern "C" {
  * and the shared library has behind its name. It rises by one with each change of a name, a layout
  * or the meaning of a number.
  */
-#define HORNHERDER_VERSION 4
+#define HORNHERDER_VERSION 5
 
 /* k, how many coordinates a point has. */
 #define HORNHERDER_MIN_DIMENSION 1
@@ -95,6 +99,10 @@ extern "C" {
 /* An offset. */
 #define HORNHERDER_MIN_OFFSET (-INT64_C(8589934592))
 #define HORNHERDER_MAX_OFFSET INT64_C(8589934592)
+
+/* A margin, which is answered and never lent: in four dimensions both ends are attained. */
+#define HORNHERDER_MIN_MARGIN (-INT64_C(12884770816))
+#define HORNHERDER_MAX_MARGIN INT64_C(12884770816)
 
 /* A mark: whether a face is closed or open. */
 #define HORNHERDER_CLOSED_FACE 0
@@ -173,8 +181,11 @@ typedef struct {
 
 /* What hornherder_place answers. */
 typedef struct {
-    uint32_t code;   /* HORNHERDER_DONE, or the refusal */
-    uint32_t inside; /* 1: the point is inside; 0: it is outside, or the call was refused */
+    uint32_t code;    /* HORNHERDER_DONE, or the refusal */
+    uint8_t inside;   /* 1: the point is inside; 0: it is outside, or the call was refused */
+    uint8_t measured; /* 1: there are faces; 0: there are none, or the call was refused */
+    uint16_t face;    /* the lowest-numbered face with the least margin; 0 where not measured */
+    int64_t margin;   /* the point's least margin over all faces; 0 where not measured */
 } hornherder_placing;
 
 /*
@@ -270,14 +281,21 @@ hornherder_screening hornherder_screen(size_t k, size_t n, size_t h, const int32
                                        const uint8_t *marks, size_t marks_len);
 
 /*
- * Tests one point against a region.
+ * Tests one point against a region, and says by how much it is inside or outside: its least margin
+ * over all faces, with the lowest-numbered face that has it.
  *
  *   point    k coordinates, each -32,768 to 32,767
  *   normals  k * h components, each -32,767 to 32,767
  *   offsets  h offsets, each -8,589,934,592 to 8,589,934,592
  *   marks    h marks, each 0 (closed) or 1 (open)
  *
- * Answers HORNHERDER_DONE with inside 1 or 0, or a refusal, 1, 3, 5 to 8, then 11, with 0.
+ * The least is the least number, whatever the marks. A negative margin says outside, and a positive
+ * one inside. At 0 the marks decide, and not that of the named face alone: a point on closed face 0
+ * and on open face 1 is outside, with margin 0 at face 0. So ask inside, and not the margin. Face 0
+ * and margin 0 are answers like others: ask measured whether there are any.
+ *
+ * Answers HORNHERDER_DONE with inside, measured, face and margin, or a refusal, 1, 3, 5 to 8, then
+ * 11, with zeros.
  */
 hornherder_placing hornherder_place(size_t k, size_t h, const int32_t *point, size_t point_len,
                                     const int32_t *normals, size_t normals_len,

@@ -90,11 +90,11 @@ static void take_back(const lent *buffer, size_t size)
     free(after);
 }
 
-/* Passes a call on, and its buffers and its answer back, the numbers of the answer as those of a listing. */
-static hornherder_listing forward(int call, size_t k, size_t n, size_t h, const lent *buffers)
+/* Passes a call on, and its buffers and its answer back. */
+static wire_answer forward(int call, size_t k, size_t n, size_t h, const lent *buffers)
 {
     wire_request request = {(uint64_t)call, k, n, h, {0}, {0}};
-    hornherder_listing answer;
+    wire_answer answer;
     pthread_mutex_lock(&one_at_a_time);
     if (to_serve < 0)
         start();
@@ -132,7 +132,7 @@ hornherder_listing hornherder_list(size_t k, size_t n, size_t h, const int32_t *
 {
     const lent buffers[WIRE_BUFFERS] = {{points, points_len, 0},   {order, order_len, 0}, {normals, normals_len, 0},
                                         {offsets, offsets_len, 0}, {marks, marks_len, 0}, {list, list_len, 1}};
-    return forward(WIRE_LIST, k, n, h, buffers);
+    return forward(WIRE_LIST, k, n, h, buffers).listing;
 }
 
 hornherder_screening hornherder_screen(size_t k, size_t n, size_t h, const int32_t *points, size_t points_len, const uint32_t *order,
@@ -141,9 +141,7 @@ hornherder_screening hornherder_screen(size_t k, size_t n, size_t h, const int32
 {
     const lent buffers[WIRE_BUFFERS] = {
         {points, points_len, 0}, {order, order_len, 0}, {normals, normals_len, 0}, {offsets, offsets_len, 0}, {marks, marks_len, 0}};
-    hornherder_listing answer = forward(WIRE_SCREEN, k, n, h, buffers);
-    hornherder_screening screening = {answer.code, answer.inside, answer.outside, answer.visits};
-    return screening;
+    return forward(WIRE_SCREEN, k, n, h, buffers).screening;
 }
 
 hornherder_placing hornherder_place(size_t k, size_t h, const int32_t *point, size_t point_len, const int32_t *normals,
@@ -152,9 +150,7 @@ hornherder_placing hornherder_place(size_t k, size_t h, const int32_t *point, si
 {
     const lent buffers[WIRE_BUFFERS] = {
         {point, point_len, 0}, {NULL, 0, 0}, {normals, normals_len, 0}, {offsets, offsets_len, 0}, {marks, marks_len, 0}};
-    hornherder_listing answer = forward(WIRE_PLACE, k, 0, h, buffers);
-    hornherder_placing placing = {answer.code, answer.inside};
-    return placing;
+    return forward(WIRE_PLACE, k, 0, h, buffers).placing;
 }
 
 uint32_t hornherder_version(void)

@@ -73,17 +73,15 @@ static void look_at_stack(void)
             _exit(1);
 }
 
-/* Makes the call of a request with these buffers. Every answer has at most the four numbers of a listing, and goes back as one. */
-static hornherder_listing call(const wire_request *r, void **b)
+/* Makes the call of a request with these buffers. */
+static wire_answer call(const wire_request *r, void **b)
 {
     const int32_t *points = (const int32_t *)b[WIRE_POINTS], *normals = (const int32_t *)b[WIRE_NORMALS];
     const int64_t *offsets = (const int64_t *)b[WIRE_OFFSETS];
     const uint8_t *marks = (const uint8_t *)b[WIRE_MARKS];
     uint32_t *order = (uint32_t *)b[WIRE_ORDER], *list = (uint32_t *)b[WIRE_LIST_BUFFER];
     const uint64_t *length = r->length;
-    hornherder_listing answer = {0, 0, 0, 0};
-    hornherder_screening screening;
-    hornherder_placing placing;
+    wire_answer answer = {{0, 0, 0, 0}};
     switch (r->call) {
     case WIRE_BUILD:
         answer.code = hornherder_build(r->k, r->n, points, length[WIRE_POINTS], order, length[WIRE_ORDER]);
@@ -92,22 +90,17 @@ static hornherder_listing call(const wire_request *r, void **b)
         answer.code = hornherder_check(r->k, r->n, points, length[WIRE_POINTS], order, length[WIRE_ORDER]);
         return answer;
     case WIRE_LIST:
-        return hornherder_list(r->k, r->n, r->h, points, length[WIRE_POINTS], order, length[WIRE_ORDER], normals,
-                               length[WIRE_NORMALS], offsets, length[WIRE_OFFSETS], marks, length[WIRE_MARKS], list,
-                               length[WIRE_LIST_BUFFER]);
+        answer.listing = hornherder_list(r->k, r->n, r->h, points, length[WIRE_POINTS], order, length[WIRE_ORDER], normals,
+                                         length[WIRE_NORMALS], offsets, length[WIRE_OFFSETS], marks, length[WIRE_MARKS], list,
+                                         length[WIRE_LIST_BUFFER]);
+        return answer;
     case WIRE_SCREEN:
-        screening = hornherder_screen(r->k, r->n, r->h, points, length[WIRE_POINTS], order, length[WIRE_ORDER], normals,
-                                      length[WIRE_NORMALS], offsets, length[WIRE_OFFSETS], marks, length[WIRE_MARKS]);
-        answer.code = screening.code;
-        answer.inside = screening.found;
-        answer.outside = screening.number;
-        answer.visits = screening.visits;
+        answer.screening = hornherder_screen(r->k, r->n, r->h, points, length[WIRE_POINTS], order, length[WIRE_ORDER], normals,
+                                             length[WIRE_NORMALS], offsets, length[WIRE_OFFSETS], marks, length[WIRE_MARKS]);
         return answer;
     case WIRE_PLACE:
-        placing = hornherder_place(r->k, r->h, points, length[WIRE_POINTS], normals, length[WIRE_NORMALS], offsets,
-                                   length[WIRE_OFFSETS], marks, length[WIRE_MARKS]);
-        answer.code = placing.code;
-        answer.inside = placing.inside;
+        answer.placing = hornherder_place(r->k, r->h, points, length[WIRE_POINTS], normals, length[WIRE_NORMALS], offsets,
+                                          length[WIRE_OFFSETS], marks, length[WIRE_MARKS]);
         return answer;
     case WIRE_VERSION:
         answer.code = hornherder_version();
@@ -129,7 +122,7 @@ int main(void)
             buffers[i] = request.null[i] ? NULL : ends[i] - size;
             take(buffers[i], size, 0);
         }
-        hornherder_listing answer = call(&request, buffers);
+        wire_answer answer = call(&request, buffers);
         look_at_stack();
         give(&answer, sizeof answer);
         for (int i = 0; i < WIRE_BUFFERS; i++)

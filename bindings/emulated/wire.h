@@ -22,6 +22,14 @@ typedef struct {
     uint64_t null[WIRE_BUFFERS];   /* 1 where the pointer was NULL */
 } wire_request;
 
+/* The answer of a call; the code alone where that is a number. The listing comes first: it has every byte, so clearing it clears all. */
+typedef union {
+    hornherder_listing listing;
+    hornherder_screening screening;
+    hornherder_placing placing;
+    uint32_t code;
+} wire_answer;
+
 /* The bytes of one element of a buffer. */
 static inline size_t wire_width(int buffer)
 {

@@ -13,7 +13,7 @@ pub fn hold(chance: &mut Chance, call: &Lent, inside: u32, list: &[u32]) {
     for _ in 0..3.min(call.n) {
         let place = chance.below(call.n);
         let one = call.with_point(list[place]);
-        let expected = u32::from(place < inside as usize);
+        let expected = u8::from(place < inside as usize);
         assert_eq!(calls::place(&one).inside, expected, "{one:?}");
     }
 }

@@ -3,6 +3,7 @@
 
 use crate::bounds;
 use crate::lent::Lent;
+use crate::margins;
 use hornherder::raw;
 use std::fmt::Debug;
 
@@ -76,7 +77,7 @@ pub fn list(lent: &Lent) -> (raw::Listing, Vec<u32>) {
 /// Calls the library's list: the answer, and all that was lent afterwards.
 fn listed(lent: &Lent) -> (raw::Listing, Lent) {
     let mut ours = lent.clone();
-    let answer = lend_marks(lent, |marks| {
+    let answer = lend(lent, &lent.marks, |marks| {
         raw::list(
             lent.k,
             lent.n,
@@ -103,12 +104,15 @@ fn listed_alike(why: &str, other: &Lent, answer: raw::Listing, ours: &Lent) {
     }
 }
 
-/// Makes a call of the library with the marks, right behind which other bytes stand, and asks that it leaves both as they were.
-fn lend_marks<A>(lent: &Lent, call: impl FnOnce(&[u8]) -> A) -> A {
-    let before = [&lent.marks[..], &lent.beyond].concat();
-    let bytes = before.clone();
-    let answer = call(&bytes[..lent.marks.len()]);
-    same("marks", lent, &bytes, &before);
+/// Makes a call of the library with a slice, right behind which other numbers stand, and asks that it leaves both as they were.
+fn lend<T, A>(lent: &Lent, slice: &[T], call: impl FnOnce(&[T]) -> A) -> A
+where
+    T: Copy + Debug + From<u8> + PartialEq,
+{
+    let before = [slice, &lent.beyond.map(T::from)].concat();
+    let places = before.clone();
+    let answer = call(&places[..slice.len()]);
+    same("what was lent", lent, &places, &before);
     answer
 }
 
@@ -147,7 +151,7 @@ pub fn screen(lent: &Lent) -> raw::Screening {
 
 /// Calls the library's screen.
 fn screened(lent: &Lent) -> raw::Screening {
-    lend_marks(lent, |marks| {
+    lend(lent, &lent.marks, |marks| {
         raw::screen(
             lent.k,
             lent.n,
@@ -184,7 +188,7 @@ fn first_of_list(lent: &Lent, answer: raw::Screening) {
     }
 }
 
-/// Compares the one-point test, also with the calls that must be answered alike.
+/// Compares the one-point test, also with the calls that must be answered alike, and holds it to the margins of the point.
 pub fn place(lent: &Lent) -> raw::Placing {
     let ours = lent.clone();
     let answer = placed(&ours);
@@ -196,24 +200,44 @@ pub fn place(lent: &Lent) -> raw::Placing {
         &lent.offsets,
         &lent.marks,
     );
-    let numbers = (answer.code, answer.inside);
-    assert_eq!(
-        numbers,
-        (expected.code, expected.inside),
-        "place of {lent:?}"
+    let flags = (u32::from(answer.inside), u32::from(answer.measured));
+    let numbers = (answer.code, flags, answer.face, answer.margin);
+    let expected_flags = (expected.inside, expected.measured);
+    let theirs_numbers = (
+        expected.code,
+        expected_flags,
+        expected.face,
+        expected.margin,
     );
+    assert_eq!(numbers, theirs_numbers, "place of {lent:?}");
     same_lent("place", lent, &ours, lent);
-    for (why, other) in lent.alike() {
-        assert_eq!(placed(&other), answer, "place {why} of {lent:?}");
-    }
+    placed_alike(lent, answer);
+    margins::hold(lent, answer);
     answer
 }
 
-/// Calls the library's one-point test.
+/// Asks that the library's one-point test answers alike: in everything with other numbers behind the slices, and as to inside with
+/// closed faces, whose margins are others, in place of open ones.
+fn placed_alike(lent: &Lent, answer: raw::Placing) {
+    let behind = placed(&lent.with_other_behind());
+    assert_eq!(behind, answer, "place by what is behind of {lent:?}");
+    if let Some(closed) = lent.with_open_as_closed().map(|other| placed(&other)) {
+        let told = [closed, answer].map(|each| (each.code, each.inside));
+        assert_eq!(told[0], told[1], "place by closed faces of {lent:?}");
+    }
+}
+
+/// Calls the library's one-point test, with other numbers right behind each slice.
 fn placed(lent: &Lent) -> raw::Placing {
-    let (normals, offsets) = (&lent.normals, &lent.offsets);
-    lend_marks(lent, |marks| {
-        raw::place(lent.k, lent.h, &lent.point, normals, offsets, marks)
+    let Lent { k, h, .. } = *lent;
+    lend(lent, &lent.point, |point| {
+        lend(lent, &lent.normals, |normals| {
+            lend(lent, &lent.offsets, |offsets| {
+                lend(lent, &lent.marks, |marks| {
+                    raw::place(k, h, point, normals, offsets, marks)
+                })
+            })
+        })
     })
 }
 

@@ -134,9 +134,22 @@ pub fn marked(chance: &mut Chance, k: usize, points: &[i32]) -> Face {
     }
 }
 
+/// The margin of a point to a face: the sum of products less the offset.
+pub fn margin(face: &Face, point: &[i32]) -> i64 {
+    through(&face.normal, point) - face.offset
+}
+
+/// A face of any kind that has the point at this margin, with either mark, where one comes up whose offset is in range.
+pub fn at_margin(chance: &mut Chance, points: &[i32], point: &[i32], margin: i64) -> Option<Face> {
+    let face = marked(chance, point.len(), points);
+    let offset = through(&face.normal, point) - margin;
+    let fits = (-MOST_OFFSET..=MOST_OFFSET).contains(&offset);
+    fits.then_some(Face { offset, ..face })
+}
+
 /// Whether a point lies exactly on a face.
 pub fn lies_on(face: &Face, point: &[i32]) -> bool {
-    face.offset == through(&face.normal, point)
+    margin(face, point) == 0
 }
 
 /// Marks of `h` faces: all closed, all open, or each of them either.

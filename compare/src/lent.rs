@@ -20,7 +20,7 @@ pub struct Lent {
     pub marks: Vec<u8>,
     pub list: Vec<u32>,
     pub point: Vec<i32>,
-    /// What stands in memory directly behind the marks.
+    /// What stands in memory directly behind the marks, and for the one-point test behind every slice.
     pub beyond: [u8; 4],
 }
 
@@ -103,7 +103,7 @@ impl Lent {
         changed
     }
 
-    /// The same with other numbers behind place n of both buffers and behind the marks, and other first
+    /// The same with other numbers behind place n of both buffers and `beyond` the slices, and other first
     /// contents of the list buffer.
     pub fn with_other_behind(&self) -> Lent {
         let mut changed = self.clone();
@@ -117,7 +117,7 @@ impl Lent {
 
     /// The same region with closed faces alone, where one is open and the offsets leave room: a sum is strictly greater than m
     /// exactly where it is at least m + 1.
-    fn with_open_as_closed(&self) -> Option<Lent> {
+    pub fn with_open_as_closed(&self) -> Option<Lent> {
         let mut changed = self.clone();
         let mut moved = false;
         for (mark, m) in changed.marks.iter_mut().zip(&mut changed.offsets) {
@@ -128,7 +128,7 @@ impl Lent {
         moved.then_some(changed)
     }
 
-    /// The calls that must be answered as this one, and in what they differ from it.
+    /// The calls that list and screen must answer as this one, and in what they differ from it.
     pub fn alike(&self) -> Vec<(&'static str, Lent)> {
         let behind = ("by what is behind", self.with_other_behind());
         let closed = self.with_open_as_closed();

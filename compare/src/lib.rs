@@ -8,6 +8,7 @@ pub mod chance;
 pub mod damage;
 pub mod faces;
 pub mod lent;
+pub mod margins;
 pub mod seen;
 pub mod shelves;
 pub mod stock;

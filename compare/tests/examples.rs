@@ -50,7 +50,8 @@ fn small_shelves() {
     let one = shelf(2, &[4, 2]);
     assert_eq!(listed(&one, &[1, 1, -1, 0], &[7, -6]), ([0, 1, 0], vec![0]));
     let region = one.with_faces(vec![1, 1, -1, 0], vec![7, -6]);
-    assert_eq!(calls::place(&region), Default::default());
+    let placing = calls::place(&region); // below the first face by 1, above the second by 2
+    assert_eq!((placing.inside, placing.face, placing.margin), (0, 0, -1));
 }
 
 /// Example 10: k 0 and 5 are refused, 1 and 4 pass, and n 65,536 is refused.

@@ -15,6 +15,12 @@ static int finds_nothing(hornherder_screening answer, uint32_t code)
     return answer.code == code && answer.found == 0 && answer.number == 0 && answer.visits == 0;
 }
 
+/* 1 where a placing has this code and this inside, and nothing is measured. */
+static int not_measured(hornherder_placing answer, uint32_t code, uint8_t inside)
+{
+    return answer.code == code && answer.inside == inside && answer.measured == 0 && answer.face == 0 && answer.margin == 0;
+}
+
 int main(void)
 {
     const int32_t zero[HORNHERDER_MAX_DIMENSION] = {0, 0, 0, 0};
@@ -29,8 +35,8 @@ int main(void)
         right &= hornherder_check(k, 0, NULL, 0, NULL, 0) == HORNHERDER_DONE;
         right &= is(hornherder_list(k, 0, 0, NULL, 0, NULL, 0, NULL, 0, NULL, 0, NULL, 0, NULL, 0), HORNHERDER_DONE);
         right &= finds_nothing(hornherder_screen(k, 0, 0, NULL, 0, NULL, 0, NULL, 0, NULL, 0, NULL, 0), HORNHERDER_DONE);
-        right &= inside.code == HORNHERDER_DONE && inside.inside == 1;
-        right &= none.code == HORNHERDER_POINTS_LENGTH && none.inside == 0;
+        right &= not_measured(inside, HORNHERDER_DONE, 1);
+        right &= not_measured(none, HORNHERDER_POINTS_LENGTH, 0);
         right &= hornherder_build(k, 1, zero, k, NULL, 0) == HORNHERDER_SHORT_BUFFER;
         right &= hornherder_check(k, 1, NULL, 0, NULL, 0) == HORNHERDER_POINTS_LENGTH;
         right &= is(hornherder_list(k, 0, 1, NULL, 0, NULL, 0, NULL, 0, NULL, 0, NULL, 0, NULL, 0), HORNHERDER_FACES_LENGTH);
@@ -38,7 +44,7 @@ int main(void)
         right &= finds_nothing(hornherder_screen(k, 0, 1, NULL, 0, NULL, 0, NULL, 0, NULL, 0, NULL, 0), HORNHERDER_FACES_LENGTH);
         right &= is(hornherder_list(k, 0, 1, NULL, 0, NULL, 0, zero, k, &offset, 1, NULL, 0, NULL, 0), HORNHERDER_MARKS);
         right &= finds_nothing(hornherder_screen(k, 0, 1, NULL, 0, NULL, 0, zero, k, &offset, 1, NULL, 0), HORNHERDER_MARKS);
-        right &= unmarked.code == HORNHERDER_MARKS && unmarked.inside == 0;
+        right &= not_measured(unmarked, HORNHERDER_MARKS, 0);
     }
     puts(right ? "right" : "wrong");
     return 0;

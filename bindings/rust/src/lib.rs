@@ -3,12 +3,12 @@
 //! The work is done by the archive `libhornherder.a`, whose every call is proved to give exactly the
 //! answer that its definitions say. This crate has two layers:
 //!
-//! - [`Shelf`], [`Region`], [`Listing`] and [`Screening`], which derive the numbers of points and of faces
-//!   and give each refusal as a [`Refusal`];
+//! - [`Shelf`], [`Region`], [`Listing`], [`Screening`] and [`Placing`], which derive the numbers of points
+//!   and of faces and give each refusal as a [`Refusal`];
 //! - [`raw`], the calls themselves with every number and slice as given.
 //!
 //! ```
-//! use hornherder::{Region, Shelf};
+//! use hornherder::{Margin, Region, Shelf};
 //!
 //! // Six points of two coordinates each.
 //! let shelf = Shelf::build(2, vec![1, 5, 4, 2, 4, 8, 7, 1, 6, 6, 2, 2])?;
@@ -27,6 +27,11 @@
 //!
 //! // Is any point inside at all? The first in shelf order says so, and the call stops there.
 //! assert_eq!(shelf.screen(&region)?.found(), Some(2));
+//!
+//! // By how much is a point outside? Point 5 is below face 0 by 3.
+//! let placing = region.place(&[2, 2])?;
+//! assert!(!placing.inside());
+//! assert_eq!(placing.margin(), Some(Margin { face: 0, amount: -3 }));
 //! # Ok::<(), hornherder::Refusal>(())
 //! ```
 //!
@@ -44,6 +49,7 @@
 #![warn(missing_docs)]
 
 mod listing;
+mod placing;
 pub mod raw;
 mod refusal;
 mod region;
@@ -51,6 +57,7 @@ mod screening;
 mod shelf;
 
 pub use listing::{Listing, Outside};
+pub use placing::{Margin, Placing};
 pub use refusal::Refusal;
 pub use region::Region;
 pub use screening::Screening;
@@ -75,3 +82,5 @@ pub const MAX_FACES: usize = 32;
 pub const MAX_COMPONENT: i32 = 32_767;
 /// The greatest offset of a face; the least is its negative.
 pub const MAX_OFFSET: i64 = 8_589_934_592;
+/// The greatest margin of a point to a face; the least is its negative.
+pub const MAX_MARGIN: i64 = 12_884_770_816;

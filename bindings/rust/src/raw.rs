@@ -21,14 +21,17 @@
 //! assert_eq!((answer.inside, answer.outside, answer.visits), (1, 1, 2));
 //! let answer = raw::screen(1, 2, 1, &points, &order, &[1], &[5], &closed);
 //! assert_eq!((answer.found, answer.number, answer.visits), (1, 1, 2));
-//! assert_eq!(raw::place(1, 1, &[5], &[1], &[5], &closed).inside, 1);
+//! let answer = raw::place(1, 1, &[5], &[1], &[5], &closed);
+//! assert_eq!((answer.inside, answer.measured, answer.face, answer.margin), (1, 1, 0, 0));
 //! assert_eq!(raw::place(1, 1, &[5], &[1], &[5], &[raw::OPEN_FACE]).inside, 0);
+//! assert_eq!(raw::place(1, 1, &[3], &[1], &[5], &closed).margin, -2);
+//! assert_eq!(raw::place(1, 0, &[5], &[], &[], &[]).measured, 0); // there is no face
 //! assert_eq!(raw::place(1, 1, &[5], &[1], &[5], &[]).code, 11); // a closed face has a mark too
 //! assert_eq!(raw::version(), raw::VERSION);
 //! ```
 
 /// The version of the calls and of the archive: the header's `HORNHERDER_VERSION`.
-pub const VERSION: u32 = 4;
+pub const VERSION: u32 = 5;
 
 /// The stack that is enough for any call, in bytes.
 pub const STACK_BYTES: usize = 32_768;
@@ -78,7 +81,14 @@ pub struct Placing {
     /// 0 for done, or the number of the refusal.
     pub code: u32,
     /// 1 where the point is inside, else 0.
-    pub inside: u32,
+    pub inside: u8,
+    /// 1 where there are faces, else 0.
+    pub measured: u8,
+    /// The lowest-numbered face that has the least margin; 0 where there are no faces.
+    pub face: u16,
+    /// The least margin over all faces: of a face, the sum of products less its offset. 0 where there are no
+    /// faces.
+    pub margin: i64,
 }
 
 extern "C" {
@@ -255,7 +265,7 @@ pub fn screen(
     }
 }
 
-/// Tests one point against a region. Refusals: 1, 3, 5 to 8, then 11.
+/// Tests one point against a region, and gives its least margin. Refusals: 1, 3, 5 to 8, then 11.
 pub fn place(
     k: usize,
     h: usize,

@@ -1,5 +1,6 @@
 //! A region: the points above every one of its faces.
 
+use crate::placing::Placing;
 use crate::raw;
 use crate::refusal::{done, same_version, Refusal};
 use crate::MAX_DIMENSION;
@@ -141,6 +142,43 @@ impl Region {
     /// # Ok::<(), hornherder::Refusal>(())
     /// ```
     pub fn contains(&self, point: &[i32]) -> Result<bool, Refusal> {
+        Ok(self.place(point)?.inside())
+    }
+
+    /// Whether the point is inside, and by how much: its least margin over all faces, and which face has it.
+    /// Refused is what [`contains`](Region::contains) refuses.
+    ///
+    /// ```
+    /// use hornherder::{Margin, Region};
+    ///
+    /// // Face 0 is x >= 3, face 1 is x < 9.
+    /// let region = Region::everywhere(1)?.with_face(&[1], 3)?.with_open_face(&[-1], -9)?;
+    /// let margin = |face, amount| Some(Margin { face, amount });
+    ///
+    /// let below = region.place(&[1])?;
+    /// assert!(!below.inside());
+    /// assert_eq!(below.margin(), margin(0, -2));
+    ///
+    /// let on_the_closed_face = region.place(&[3])?;
+    /// assert!(on_the_closed_face.inside());
+    /// assert_eq!(on_the_closed_face.margin(), margin(0, 0));
+    ///
+    /// let on_the_open_face = region.place(&[9])?;
+    /// assert!(!on_the_open_face.inside());
+    /// assert_eq!(on_the_open_face.margin(), margin(1, 0));
+    ///
+    /// // 3 away from both: the lower-numbered face is named.
+    /// let between = region.place(&[6])?;
+    /// assert!(between.inside());
+    /// assert_eq!(between.margin(), margin(0, 3));
+    ///
+    /// // With no faces there is no margin.
+    /// let anywhere = Region::everywhere(1)?.place(&[6])?;
+    /// assert!(anywhere.inside());
+    /// assert_eq!(anywhere.margin(), None);
+    /// # Ok::<(), hornherder::Refusal>(())
+    /// ```
+    pub fn place(&self, point: &[i32]) -> Result<Placing, Refusal> {
         let answer = raw::place(
             self.k,
             self.h(),
@@ -150,7 +188,7 @@ impl Region {
             &self.marks,
         );
         done(answer.code)?;
-        Ok(answer.inside == 1)
+        Ok(Placing::new(answer))
     }
 
     /// The dimension: how many components a normal has.

@@ -1,7 +1,8 @@
-//! The constants of the C header and of this crate are the same.
+//! The constants of the C header and of this crate are the same, and the widths of the answers.
 
 use hornherder::{raw, Refusal};
 use std::collections::HashMap;
+use std::mem::{offset_of, size_of};
 
 const HEADER: &str = include_str!("../../c/hornherder.h");
 
@@ -53,6 +54,8 @@ fn same_constants() {
         ("MAX_COMPONENT", i64::from(hornherder::MAX_COMPONENT)),
         ("MIN_OFFSET", -hornherder::MAX_OFFSET),
         ("MAX_OFFSET", hornherder::MAX_OFFSET),
+        ("MIN_MARGIN", -hornherder::MAX_MARGIN),
+        ("MAX_MARGIN", hornherder::MAX_MARGIN),
         ("CLOSED_FACE", i64::from(raw::CLOSED_FACE)),
         ("OPEN_FACE", i64::from(raw::OPEN_FACE)),
         ("DONE", 0),
@@ -66,6 +69,18 @@ fn same_constants() {
         assert_eq!(header.remove(&name[..]), Some(number), "{name}");
     }
     assert!(header.is_empty(), "only in the header: {header:?}");
+}
+
+/// Every answer has 16 bytes, and that of the one-point test has its numbers where the C test of the margins asks for them.
+#[test]
+fn same_layout() {
+    assert_eq!(size_of::<raw::Listing>(), 16);
+    assert_eq!(size_of::<raw::Screening>(), 16);
+    assert_eq!(size_of::<raw::Placing>(), 16);
+    assert_eq!(offset_of!(raw::Placing, inside), 4);
+    assert_eq!(offset_of!(raw::Placing, measured), 5);
+    assert_eq!(offset_of!(raw::Placing, face), 6);
+    assert_eq!(offset_of!(raw::Placing, margin), 8);
 }
 
 /// The crate's version starts with the header's, which is the library's.

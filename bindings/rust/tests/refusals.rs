@@ -83,8 +83,16 @@ fn marks_in_order() {
         let listing = raw::list(1, 2, 1, &points, &order, &normals, &[0], &marks, &mut list);
         let screening = raw::screen(1, 2, 1, &points, &order, &normals, &[0], &marks);
         assert_eq!((listing.code, screening.code), (code, code));
-        let placing = raw::place(1, 1, &[0], &normals, &[0], &marks);
-        assert_eq!(placing.code, if code == 9 { 0 } else { code });
+        let placing = raw::place(1, 1, &[5], &normals, &[0], &marks);
+        if code == 8 || code == 11 {
+            let refused = raw::Placing {
+                code,
+                ..raw::Placing::default()
+            };
+            assert_eq!(placing, refused);
+        } else {
+            assert_eq!((placing.code, placing.inside, placing.margin), (0, 1, 5));
+        }
         if code != 0 {
             assert_eq!(list, [70, 71]);
             assert_eq!((listing.inside, listing.outside, listing.visits), (0, 0, 0));
@@ -102,6 +110,9 @@ fn of_one_point() {
     assert_eq!(region.contains(&[1, 2]), Err(Refusal::PointsLength));
     assert_eq!(region.contains(&[32_768]), Err(Refusal::CoordinateRange));
     assert_eq!(region.contains(&[32_767]), Ok(true));
+    assert_eq!(region.place(&[]), Err(Refusal::PointsLength));
+    assert_eq!(region.place(&[-32_769]), Err(Refusal::CoordinateRange));
+    assert!(region.place(&[-32_768]).is_ok());
 }
 
 /// Listing meets 4 and 7, and leaves the buffer alone.

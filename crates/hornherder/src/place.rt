@@ -4,14 +4,16 @@ use crate::refuse::dimension_refusal;
 use crate::refuse::face_refusal;
 use crate::refuse::length_refusal;
 use descent::points::point_at;
-use region::faces::inside_all;
+use region::measure::measure;
 use terms::Placing;
 ghost use mathlib.Core.Path.{_≡_};
+ghost use Rattle.terms.specs.Tests.{bit};
 ghost use Rattle.terms.specs.Lent.{faces};
 ghost use Rattle.terms.specs.PlaceCall.{placeRefusals, placeAnswer};
 ghost use Rattle.hornherder.specs.First.{First};
 
-// Whether one point is inside a region: 1 or 0 beside the number 0. A refusal has its number and 0.
+// Whether one point is inside a region, 1 or 0, and where there are faces its least margin with the lowest-numbered face that has it. A refusal has
+// its number and zeros.
 #[no_mangle]
 pub extern "C" fn hornherder_place(
     k: usize,
@@ -28,13 +30,27 @@ pub extern "C" fn hornherder_place(
         return Placing {
             code: code,
             inside: 0,
+            measured: 0,
+            face: 0,
+            margin: 0,
         };
     }
     let x = point_at(k, point, 0);
-    if inside_all(k, x, normals, offsets, marks) {
-        return Placing { code: 0, inside: 1 };
+    let measured = measure(k, x, normals, offsets, marks);
+    Placing {
+        code: 0,
+        inside: one_if(measured.inside),
+        measured: one_if(h > 0),
+        face: measured.face as u16,
+        margin: measured.margin,
     }
-    Placing { code: 0, inside: 0 }
+}
+
+// 1 for yes, 0 for no.
+fn one_if(yes: bool) -> u8
+    ensures { λ r. ⌜ r ≡ bit yes ⌝ }
+{
+    if yes { 1 } else { 0 }
 }
 
 // The first of 1, 3, 5 to 8 and 11 that holds of the one-point test's arguments, or 0.

@@ -1,34 +1,30 @@
--- What the code's test says with a mark added to the offset, strictly greater being at least one more, and of which regions it says so.
-use mathlib.Core.Path.{_≡_}
-use mathlib.Core.Bool.{cond}
-use mathlib.Core.List.{List}
+-- What the code's test of a margin says: at least the mark is 0 or more for a closed face, and more than 0 for an open one. And that a margin fits.
+use mathlib.Core.Path.{_≡_, refl, sym, ap, _∙_}
+use mathlib.Core.Bool.{Bool, cond}
 use Prim.Native.Nat.{ℕ, zero, suc, _≤_}
 use native.Mathlib.Omega.{arith}
 use lib.Dec.{eqb}
-use lib.ListN.{getD}
-use lib.IntN.{ℤ, pos, negsuc, natAbs, _+ℤ_}
+use lib.IntN.{ℤ, pos, negsuc, natAbs, _-ℤ_}
 use lib.Signed.{leZ, ltZ}
 use mir.Syntax.{w64}
 use mir.Val.{SFits, toZ}
-use Rattle.whole.specs.Parts.{ints, flags, abs-parts, sum-parts}
-use Rattle.whole.specs.Fits.{fits-sum}
-use Rattle.terms.specs.Region.{Region}
+use Rattle.whole.specs.Parts.{ints, flags, abs-parts}
+use Rattle.whole.specs.Fits.{fits-dif}
+use Rattle.terms.specs.Region.{Region, aboveAt}
 use Rattle.theory.specs.Flags.{same-test}
 use Rattle.theory.specs.Tested.{Between}
+use Rattle.theory.specs.Margins.{aboveBy, above-by-margin}
 
--- An offset in range with a mark added fits.
-pub marked-fits : (z : ℤ) → Between (negsuc 8589934591) z (pos 8589934592) → (m : ℕ) → m ≤ 1 → SFits w64 (z +ℤ toZ w64 m)
-marked-fits z r zero l = fits-sum z (pos 0) 8589934592 0 (omega (ints, abs-parts z)) (omega (ints, abs-parts (pos 0))) tt
-marked-fits z r (suc zero) l = fits-sum z (pos 1) 8589934592 1 (omega (ints, abs-parts z)) (omega (ints, abs-parts (pos 1))) tt
-marked-fits z r (suc (suc m)) l = absurd (omega arith)
+-- A sum of products less an offset fits.
+pub margin-fits : (v z : ℤ) → natAbs v ≤ 4294836224 → Between (negsuc 8589934591) z (pos 8589934592) → SFits w64 (v -ℤ z)
+margin-fits v z l r = fits-dif v z 4294836224 8589934592 l (omega (ints, abs-parts z)) tt
 
--- The offset with the mark added is at most the sum: strictly less than it where the mark is 1, at most where it is 0.
-pub marked-at-most : (z v : ℤ) (m : ℕ) → m ≤ 1 → leZ (z +ℤ toZ w64 m) v ≡ cond (eqb m 1) (ltZ z v) (leZ z v)
-marked-at-most z v zero l = same-test (λ e. omega (flags, sum-parts z (pos 0))) (λ e. omega (flags, sum-parts z (pos 0)))
-marked-at-most z v (suc zero) l = same-test (λ e. omega (flags, sum-parts z (pos 1))) (λ e. omega (flags, sum-parts z (pos 1)))
-marked-at-most z v (suc (suc m)) l = absurd (omega arith)
+-- At least the mark: more than 0 where it is 1, 0 or more where it is 0.
+pub at-least-mark : (m : ℤ) (mark : ℕ) → mark ≤ 1 → leZ (toZ w64 mark) m ≡ cond (eqb mark 1) (ltZ (pos 0) m) (leZ (pos 0) m)
+at-least-mark m zero l = refl
+at-least-mark m (suc zero) l = same-test (λ e. omega flags) (λ e. omega flags)
+at-least-mark m (suc (suc mark)) l = absurd (omega arith)
 
--- The region's face i has the offset and the mark that stand in place i.
-pub record Borders (offsets : List ℤ) (marks : List ℕ) (g : Region) (i : ℕ) : Type 0 where
-  pub offset : g .offset i ≡ getD offsets i (pos 0)
-  pub mark : g .markedOpen i ≡ eqb (getD marks i 0) 1
+-- A test that says whether a margin is above a face says whether the sum is.
+pub margin-above : (g : Region) (i : ℕ) (v : ℤ) {t : Bool} {m : ℤ} → t ≡ aboveBy g i m → m ≡ v -ℤ g .offset i → t ≡ aboveAt g i v
+margin-above g i v e q = e ∙ ap (aboveBy g i) q ∙ sym (above-by-margin g i v)

@@ -5,3 +5,4 @@ pub mod Table
 pub mod Ranges
 pub mod Live
 pub mod Judged
+pub mod Measured

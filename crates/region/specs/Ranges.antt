@@ -61,12 +61,20 @@ has-normal {k} {normals} {h} {i} few size l =
     let more : suc i * k ≤ h * k = mul-le-mul l (omega arith) in
     record { few = few; room = omega arith }
 
--- Face i has its offset, in range, and its mark, 0 or 1.
+-- Face i has its offset, in range.
+pub record HasOffset (offsets : List ℤ) (i : ℕ) : Type 0 where
+  pub there : i < length offsets
+  pub range : Between (negsuc 8589934591) (getD offsets i (pos 0)) (pos 8589934592)
+
+-- Face i has its mark, 0 or 1.
+pub record HasMark (marks : List ℕ) (i : ℕ) : Type 0 where
+  pub there : i < length marks
+  pub range : getD marks i 0 ≤ 1
+
+-- Face i has both.
 pub record Marked (offsets : List ℤ) (marks : List ℕ) (i : ℕ) : Type 0 where
-  pub offset-there : i < length offsets
-  pub mark-there : i < length marks
-  pub offset-range : Between (negsuc 8589934591) (getD offsets i (pos 0)) (pos 8589934592)
-  pub mark-range : getD marks i 0 ≤ 1
+  pub offset : HasOffset offsets i
+  pub mark : HasMark marks i
 
 -- What was tested of face i: its row is a normal, and it has its offset and its mark.
 module _ {k : ℕ} {f : Faces} (w : KnownFaces k f) {i : ℕ} (l : i < f .h) where
@@ -80,7 +88,10 @@ module _ {k : ℕ} {f : Faces} (w : KnownFaces k f) {i : ℕ} (l : i < f .h) whe
       let t = w .tested in
       let offset : i < length (f .offsets) = omega (arith, t .offsets-size) in
       let mark : i < length (f .marks) = omega (arith, t .marks-size) in
-      record { offset-there = offset; mark-there = mark; offset-range = t .offsets-range i offset; mark-range = t .marks-range i mark }
+      record {
+        offset = record { there = offset; range = t .offsets-range i offset };
+        mark = record { there = mark; range = t .marks-range i mark };
+      }
 
 -- Faces whose normals are a table: each row is a normal, and each face has its offset and its mark.
 pub record KnownTable (k : ℕ) (f : Faces) : Type 0 where
@@ -98,14 +109,24 @@ pub record HasRow (k : ℕ) (f : Faces) (i : ℕ) : Type 0 where
   pub all : KnownTable k f
   pub known : i < f .h
 
--- A row read from the table is a normal, and its components are those of the region that the table tells of.
-module _ {k : ℕ} {f : Faces} {i : ℕ} (w : HasRow k f i) {row : ℕ → ℤ} (s : SamePoint 4 row (normalOf 4 (f .normals) i)) where
+-- A point has a margin to row i of a table: the row is a normal, and face i has its offset.
+pub record HasMargin (k : ℕ) (table offsets : List ℤ) (i : ℕ) : Type 0 where
+  pub few : i < 32
+  pub normal : Normal k (normalOf 4 table i)
+  pub offset : HasOffset offsets i
+
+pub has-margin : {k : ℕ} {f : Faces} {i : ℕ} → HasRow k f i → HasMargin k (f .normals) (f .offsets) i
+has-margin {i = i} w =
+    let a = w .all in
+    record { few = omega (arith, w .known, a .many); normal = a .each i (w .known); offset = a .marked i (w .known) .offset }
+
+-- A row with the same four components as a normal is one, and agrees with it on the first k.
+module _ {k : ℕ} {normal : ℕ → ℤ} (n : Normal k normal) {row : ℕ → ℤ} (s : SamePoint 4 row normal) where
   pub row-normal : Normal k row
   row-normal =
-      let n = w .all .each i (w .known) in
       record { few = n .few; ranges = λ d l. rw (s .same d (omega (arith, n .few))) (n .ranges d l); rest = λ d l m. s .same d m ∙ n .rest d l m }
 
-  pub row-same : SamePoint k row (normalOf 4 (f .normals) i)
+  pub row-same : SamePoint k row normal
   row-same = same-point-fewer (row-normal .few) s
 
 abs-coordinate : (z : ℤ) → Between (negsuc 32767) z (pos 32767) → natAbs z ≤ 32768
@@ -136,6 +157,12 @@ module _ {k : ℕ} {normal x : ℕ → ℤ} (n : Normal k normal) (p : Coordinat
 
   pub sum-fits : (d : ℕ) → d ≤ 4 → SFits w64 (sumTo d (products normal x))
   sum-fits d l = fits-abs-le 4294836224 (omega (arith, sum-abs d 1073709056 (products normal x) (λ e m. abs-product e (omega arith)))) tt
+
+  -- A sum is at most 4 * 32,767 * 32,768.
+  pub abs-sum : natAbs (sumTo k (products normal x)) ≤ 4294836224
+  abs-sum =
+      let few : k ≤ 4 = n .few in
+      omega (arith, sum-abs k 1073709056 (products normal x) (λ e m. abs-product e (omega arith)))
 
   -- The sum of all four is that of the first k.
   pub sum-of-four : sumTo 4 (products normal x) ≡ sumTo k (products normal x)

@@ -1,5 +1,6 @@
 // A box against a face by its two corners, and the boxes of a branch's children.
 use crate::faces::above;
+use crate::faces::margin;
 use crate::faces::row_at;
 use crate::faces::sum;
 use terms::CornerRows;
@@ -61,7 +62,7 @@ pub fn wholly_above(
     let low = rows.low;
     let high = rows.high;
     let row = row_at(table, i);
-    above(corner_sum(k, low, high, row), offsets, marks, i)
+    above(margin(corner_sum(k, low, high, row), offsets, i), marks, i)
 }
 
 // Whether a box is wholly below face i: the opposite corner is below.
@@ -80,7 +81,7 @@ pub fn wholly_below(
     let low = rows.low;
     let high = rows.high;
     let row = row_at(table, i);
-    !above(corner_sum(k, high, low, row), offsets, marks, i)
+    !above(margin(corner_sum(k, high, low, row), offsets, i), marks, i)
 }
 
 // The row with its entry of dimension s replaced by x. Every entry is asked whether it is the one, so that no row has to be stored and read back.

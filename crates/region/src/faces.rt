@@ -1,20 +1,23 @@
-// The normals of the faces as rows of four, the sum of products, and a point against a face and against all.
+// The normals of the faces as rows of four, the sum of products, and the margin of a point to a face.
 ghost use mathlib.Core.Path.{_≡_};
-ghost use Prim.Native.Nat.{_*_, _≤_, _<_};
-ghost use lib.ListN.{length};
+ghost use mathlib.Core.List.{List};
+ghost use Prim.Native.Nat.{ℕ, _*_, _≤_, _<_};
+ghost use lib.Dec.{eqb};
+ghost use lib.ListN.{length, getD};
+ghost use lib.IntN.{natAbs, pos, _-ℤ_};
 ghost use Rattle.whole.specs.IndexedSum.{sumTo};
 ghost use Rattle.terms.specs.Lent.{facesOf};
 ghost use Rattle.terms.specs.Points.{lone};
-ghost use Rattle.terms.specs.Region.{Region, region, aboveAt, inside};
-ghost use Rattle.terms.specs.Region as words;
+ghost use Rattle.terms.specs.Region.{Region};
+ghost use Rattle.terms.specs.Margin as words;
 ghost use Rattle.theory.specs.Tested.{Coordinates};
 ghost use Rattle.theory.specs.PointsAlike.{SamePoint};
-ghost use Rattle.region.specs.Above.{Borders};
+ghost use Rattle.theory.specs.Margins.{aboveBy};
 ghost use Rattle.region.specs.Table.{normalOf, products, Row, Tabled, tabled};
-ghost use Rattle.region.specs.Ranges.{Normal, KnownFaces, HasNormal, Marked, HasRow};
+ghost use Rattle.region.specs.Ranges.{Normal, HasNormal, HasOffset, HasMark, HasMargin};
 
 // The normal of face i in a row of its own: its k components, and 0 from k on.
-fn normal_at(k: usize, normals: &[i32], i: usize) -> [i32; 4]
+pub fn normal_at(k: usize, normals: &[i32], i: usize) -> [i32; 4]
     requires { ⌜ HasNormal k (now normals) i ⌝ }
     ensures { λ r. ⌜ Row k (normalOf k (now (normals .entry)) i) (lone r) ⌝ }
 {
@@ -74,42 +77,30 @@ pub fn sum(k: usize, x: [i32; 4], row: [i32; 4]) -> i64
     total
 }
 
-// Whether a sum of products is above face i: the one place that says what above means, for points and for corners. Above an open face is strictly
-// greater, which is at least one more, so the mark is added.
-pub fn above(sum: i64, offsets: &[i64], marks: &[u8], i: usize) -> bool
-    requires { ⌜ Marked (now offsets) (now marks) i ⌝ }
-    ensures { λ r. ⌜ ((g : Region) → Borders (now (offsets .entry)) (now (marks .entry)) g i → r ≡ aboveAt g i sum) ⌝ }
+// The margin of a sum of products to face i: the sum less the offset.
+pub fn margin(sum: i64, offsets: &[i64], i: usize) -> i64
+    requires { ⌜ natAbs sum ≤ 4294836224 ⌝ }
+    requires { ⌜ HasOffset (now offsets) i ⌝ }
+    ensures { λ r. ⌜ r ≡ sum -ℤ getD (now (offsets .entry)) i (pos 0) ⌝ }
+{
+    sum - offsets[i]
+}
+
+// Whether a margin is above face i: the one place that says what above means, for points and for corners. Above a closed face is 0 or more, above an
+// open one more than 0, which is 1 or more: at least the mark.
+pub fn above(margin: i64, marks: &[u8], i: usize) -> bool
+    requires { ⌜ HasMark (now marks) i ⌝ }
+    ensures { λ r. ⌜ ((g : Region) → g .markedOpen i ≡ eqb (getD (now (marks .entry)) i 0) 1 → r ≡ aboveBy g i margin) ⌝ }
 {
     let mark = marks[i] as i64;
-    offsets[i] + mark <= sum
+    mark <= margin
 }
 
-// Whether a point is above face i of the table.
-pub fn point_above(
-    k: usize,
-    x: [i32; 4],
-    table: &[i32; 128],
-    offsets: &[i64],
-    marks: &[u8],
-    i: usize,
-) -> bool
+// The margin of a point to face i of the table: by how much it is above the face, or below it.
+pub fn point_margin(k: usize, x: [i32; 4], table: &[i32; 128], offsets: &[i64], i: usize) -> i64
     requires { ⌜ Coordinates k (lone x) ⌝ }
-    requires { ⌜ HasRow k (facesOf (now table) (now offsets) (now marks)) i ⌝ }
-    ensures { λ r. ⌜ r ≡ words.above (tabled k (facesOf (now (table .entry)) (now (offsets .entry)) (now (marks .entry)))) i (lone x) ⌝ }
+    requires { ⌜ HasMargin k (now table) (now offsets) i ⌝ }
+    ensures { λ r. ⌜ ((marks : List ℕ) → r ≡ words.margin (tabled k (facesOf (now (table .entry)) (now (offsets .entry)) marks)) i (lone x)) ⌝ }
 {
-    above(sum(k, x, row_at(table, i)), offsets, marks, i)
-}
-
-// Whether a point is inside the region: above every face. One point alone is tested, so each normal is read when its turn comes and no table is made.
-pub fn inside_all(k: usize, x: [i32; 4], normals: &[i32], offsets: &[i64], marks: &[u8]) -> bool
-    requires { ⌜ Coordinates k (lone x) ⌝ }
-    requires { ⌜ KnownFaces k (facesOf (now normals) (now offsets) (now marks)) ⌝ }
-    ensures { λ r. ⌜ r ≡ inside (region k (facesOf (now (normals .entry)) (now (offsets .entry)) (now (marks .entry)))) (lone x) ⌝ }
-{
-    for i in 0..offsets.len() {
-        if !above(sum(k, x, normal_at(k, normals, i)), offsets, marks, i) {
-            return false;
-        }
-    }
-    true
+    margin(sum(k, x, row_at(table, i)), offsets, i)
 }

@@ -3,3 +3,4 @@ pub mod boxes;
 pub mod faces;
 pub mod judge;
 pub mod live;
+pub mod measure;

@@ -1,6 +1,7 @@
 // The live faces: those not yet known to be wholly above the present box, as the first `count` of 32 entries, in rising order. They are lent
 // from a branch to its children, so that none is copied.
-use crate::faces::point_above;
+use crate::faces::above;
+use crate::faces::point_margin;
 ghost use Prim.Native.Nat.{_≤_};
 ghost use lib.ListN.{length};
 ghost use Rattle.terms.specs.Lent.{facesOf};
@@ -38,7 +39,8 @@ pub fn inside_live(
     ensures { λ r. ⌜ InsideByLive (tabled k (facesOf (now (table .entry)) (now (offsets .entry)) (now (marks .entry)))) (now (live .entry)) count (lone x) r ⌝ }
 {
     for t in 0..count {
-        if !point_above(k, x, table, offsets, marks, live[t] as usize) {
+        let i = live[t] as usize;
+        if !above(point_margin(k, x, table, offsets, i), marks, i) {
             return false;
         }
     }

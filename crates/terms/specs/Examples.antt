@@ -27,6 +27,7 @@ use Rattle.terms.specs.BuildCall.{Built, buildAnswer}
 use Rattle.terms.specs.CheckCall.{checkAnswer}
 use Rattle.terms.specs.ListCall.{listCode, listAnswer, listAfter}
 use Rattle.terms.specs.Screen.{insideSlots, upToFirst, screenVisits}
+use Rattle.terms.specs.Margin.{leastTo, lowestLeast}
 use Rattle.terms.specs.ScreenCall.{screenCode, screenAnswer}
 use Rattle.terms.specs.Mirror.{mirror, withFace}
 use Rattle.terms.specs.PlaceCall.{placeCode, placeAnswer}
@@ -122,9 +123,13 @@ findsNone visits = record { code = 0; found = 0; number = 0; visits = visits }
 abbrev unscreened : ℕ → Screening
 unscreened c = record { code = c; found = 0; number = 0; visits = 0 }
 
--- The answer of a test of one point.
-abbrev answers : ℕ → ℕ → Placing
-answers code inside = record { code = code; inside = inside }
+-- The answer of a test of one point against faces: inside or not, and the least margin with its lowest-numbered face.
+abbrev measures : ℕ → ℕ → ℤ → Placing
+measures inside face margin = record { code = 0; inside = inside; measured = 1; face = face; margin = margin }
+
+-- The answer of a test of one point that is refused.
+abbrev untested : ℕ → Placing
+untested c = record { code = c; inside = 0; measured = 0; face = 0; margin = pos 0 }
 
 -- Faces that are all closed.
 abbrev closed : ℕ → List ℤ → List ℤ → Faces
@@ -270,7 +275,7 @@ example-9-list = lists one twoFaces (5 ∷ []) (counts 0 1 0) (0 ∷ [])
 
 -- Example 9: the one-point test says outside.
 abbrev pub example-9-test : Row
-example-9-test = tests 2 (pos 4 ∷ pos 2 ∷ []) twoFaces (answers 0 0)
+example-9-test = tests 2 (pos 4 ∷ pos 2 ∷ []) twoFaces (measures 0 0 (minus 1))
 
 -- S(6, 2).
 abbrev pub sum-6-2 : Row
@@ -296,11 +301,11 @@ sum-65535-4 = sums 65535 4 8775
 
 -- A point on the face is inside.
 abbrev pub test-on-the-face : Row
-test-on-the-face = tests 2 (pos 1 ∷ pos 5 ∷ []) diagonal (answers 0 1)
+test-on-the-face = tests 2 (pos 1 ∷ pos 5 ∷ []) diagonal (measures 1 0 (pos 0))
 
 -- A point one below it is outside.
 abbrev pub test-below-the-face : Row
-test-below-the-face = tests 2 (pos 0 ∷ pos 5 ∷ []) diagonal (answers 0 0)
+test-below-the-face = tests 2 (pos 0 ∷ pos 5 ∷ []) diagonal (measures 0 0 (minus 1))
 
 -- Shelf A's points in a longer order.
 abbrev anyALonger : Shelf
@@ -614,27 +619,27 @@ check-refuses-number-of-n = checks numberOfN 9
 
 -- 1 before 3.
 abbrev pub test-refuses-dimension : Row
-test-refuses-dimension = tests 5 [] twoFaces (answers 1 0)
+test-refuses-dimension = tests 5 [] twoFaces (untested 1)
 
 -- 3 for a point that is not k long, before 5.
 abbrev pub test-refuses-length : Row
-test-refuses-length = tests 2 (pos 40000 ∷ []) twoFaces (answers 3 0)
+test-refuses-length = tests 2 (pos 40000 ∷ []) twoFaces (untested 3)
 
 -- 5 before 6.
 abbrev pub test-refuses-coordinate : Row
-test-refuses-coordinate = tests 1 (pos 40000 ∷ []) tooManyFaces (answers 5 0)
+test-refuses-coordinate = tests 1 (pos 40000 ∷ []) tooManyFaces (untested 5)
 
 -- 6 before 7.
 abbrev pub test-refuses-h : Row
-test-refuses-h = tests 1 (pos 4 ∷ []) tooManyFaces (answers 6 0)
+test-refuses-h = tests 1 (pos 4 ∷ []) tooManyFaces (untested 6)
 
 -- 7 before 8.
 abbrev pub test-refuses-normals : Row
-test-refuses-normals = tests 1 (pos 4 ∷ []) wrongNormals (answers 7 0)
+test-refuses-normals = tests 1 (pos 4 ∷ []) wrongNormals (untested 7)
 
 -- 8.
 abbrev pub test-refuses-component : Row
-test-refuses-component = tests 1 (pos 4 ∷ []) componentTooLow (answers 8 0)
+test-refuses-component = tests 1 (pos 4 ∷ []) componentTooLow (untested 8)
 
 -- S(0, 3): the empty shelf.
 abbrev pub sum-0-3 : Row
@@ -818,15 +823,15 @@ screen-on-open-face = screens shelfA rightOfSevenOpen (findsNone 0)
 
 -- A point on a closed face is inside.
 abbrev pub test-on-closed-face : Row
-test-on-closed-face = tests 2 (pos 7 ∷ pos 1 ∷ []) rightOfSeven (answers 0 1)
+test-on-closed-face = tests 2 (pos 7 ∷ pos 1 ∷ []) rightOfSeven (measures 1 0 (pos 0))
 
 -- A point on an open face is outside.
 abbrev pub test-on-open-face : Row
-test-on-open-face = tests 2 (pos 7 ∷ pos 1 ∷ []) rightOfSevenOpen (answers 0 0)
+test-on-open-face = tests 2 (pos 7 ∷ pos 1 ∷ []) rightOfSevenOpen (measures 0 0 (pos 0))
 
 -- One more is inside.
 abbrev pub test-past-open-face : Row
-test-past-open-face = tests 2 (pos 8 ∷ pos 1 ∷ []) rightOfSevenOpen (answers 0 1)
+test-past-open-face = tests 2 (pos 8 ∷ pos 1 ∷ []) rightOfSevenOpen (measures 1 0 (pos 1))
 
 -- The zero face with m 0, open: its sum is 0, which is not greater.
 abbrev zeroFaceOpen : Faces
@@ -878,11 +883,53 @@ screen-refuses-offset-before-mark = screens pair offsetAndMark (unscreened 8)
 
 -- 11 of a test of one point, last.
 abbrev pub test-refuses-mark : Row
-test-refuses-mark = tests 1 (pos 4 ∷ []) markTwo (answers 11 0)
+test-refuses-mark = tests 1 (pos 4 ∷ []) markTwo (untested 11)
 
 -- 8 of a test of one point, before 11.
 abbrev pub test-refuses-offset-before-mark : Row
-test-refuses-offset-before-mark = tests 1 (pos 4 ∷ []) offsetAndMark (answers 8 0)
+test-refuses-offset-before-mark = tests 1 (pos 4 ∷ []) offsetAndMark (untested 8)
+
+-- ---- margins
+
+-- With no faces the point is inside, and nothing is measured.
+abbrev pub test-no-faces : Row
+test-no-faces = tests 2 (pos 1 ∷ pos 5 ∷ []) noFaces (record { code = 0; inside = 1; measured = 0; face = 0; margin = pos 0 })
+
+-- Both margins are 2: the lower-numbered face is named.
+abbrev pub margin-tie : Row
+margin-tie = tests 2 (pos 4 ∷ pos 5 ∷ []) twoFaces (measures 1 0 (pos 2))
+
+-- Margins 4 and 1.
+abbrev pub margin-second-face : Row
+margin-second-face = tests 2 (pos 5 ∷ pos 6 ∷ []) twoFaces (measures 1 1 (pos 1))
+
+-- Margins -1 and -2: below the first face already, and the second is asked too.
+abbrev pub margin-past-a-face-below : Row
+margin-past-a-face-below = tests 2 (pos 8 ∷ minus 2 ∷ []) twoFaces (measures 0 1 (minus 2))
+
+-- A closed face and its mirror, open: x at least 7, and less than 7.
+abbrev closedAndMirror : Faces
+closedAndMirror = withFace rightOfSeven (mirror (record { normal = pos 1 ∷ pos 0 ∷ []; offset = pos 7; mark = 0 }))
+
+-- Margin 0 to both: below the open one, and the lower-numbered face is named, the closed one.
+abbrev pub margin-zero-closed-and-open : Row
+margin-zero-closed-and-open = tests 2 (pos 7 ∷ pos 1 ∷ []) closedAndMirror (measures 0 0 (pos 0))
+
+-- The face furthest above a point, in four dimensions.
+abbrev furthestAbove : Faces
+furthestAbove = closed 1 (pos 32767 ∷ pos 32767 ∷ pos 32767 ∷ pos 32767 ∷ []) (pos 8589934592 ∷ [])
+
+-- The face furthest below it.
+abbrev furthestBelow : Faces
+furthestBelow = closed 1 (minus 32767 ∷ minus 32767 ∷ minus 32767 ∷ minus 32767 ∷ []) (minus 8589934592 ∷ [])
+
+-- The least margin that there is.
+abbrev pub margin-least-of-all : Row
+margin-least-of-all = tests 4 (minus 32768 ∷ minus 32768 ∷ minus 32768 ∷ minus 32768 ∷ []) furthestAbove (measures 0 0 (minus 12884770816))
+
+-- The greatest margin that there is.
+abbrev pub margin-greatest-of-all : Row
+margin-greatest-of-all = tests 4 (minus 32768 ∷ minus 32768 ∷ minus 32768 ∷ minus 32768 ∷ []) furthestBelow (measures 1 0 (pos 12884770816))
 
 -- ---- the statement
 
@@ -1007,11 +1054,18 @@ table =
     ∷ screen-refuses-offset-before-mark
     ∷ test-refuses-mark
     ∷ test-refuses-offset-before-mark
+    ∷ test-no-faces
+    ∷ margin-tie
+    ∷ margin-second-face
+    ∷ margin-past-a-face-below
+    ∷ margin-zero-closed-and-open
+    ∷ margin-least-of-all
+    ∷ margin-greatest-of-all
     ∷ []
 
 -- Every row holds of the calls as they are defined.
 pub examples-hold : All table
-unfolding lesser greater sumTo totalTo count every keep allTo anyTo rising before treeRun eachOnce isTree leastFrom greatestFrom rootBox boxes aboveAt inside isSettled isOpen openSlots visits digitsWithin digits S isSquare firstOf buildAnswer checkAnswer listCode listAnswer listAfter insideSlots upToFirst screenVisits screenCode screenAnswer placeCode placeAnswer
+unfolding lesser greater sumTo totalTo count every keep allTo anyTo rising before treeRun eachOnce isTree leastFrom greatestFrom rootBox boxes aboveAt inside isSettled isOpen openSlots visits digitsWithin digits S isSquare firstOf buildAnswer checkAnswer listCode listAnswer listAfter insideSlots upToFirst screenVisits leastTo lowestLeast screenCode screenAnswer placeCode placeAnswer
 examples-hold =
     example-1-build by built refl refl refl refl
     also example-1-check by refl
@@ -1131,4 +1185,11 @@ examples-hold =
     also screen-refuses-offset-before-mark by refl
     also test-refuses-mark by refl
     also test-refuses-offset-before-mark by refl
+    also test-no-faces by refl
+    also margin-tie by refl
+    also margin-second-face by refl
+    also margin-past-a-face-below by refl
+    also margin-zero-closed-and-open by refl
+    also margin-least-of-all by refl
+    also margin-greatest-of-all by refl
     also nothing-left

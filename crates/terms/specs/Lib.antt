@@ -9,6 +9,7 @@ pub mod Region
 pub mod Visits
 pub mod Lists
 pub mod Screen
+pub mod Margin
 pub mod Bound
 pub mod Refusals
 pub mod BuildCall

@@ -4,7 +4,8 @@ use mathlib.Core.Bool.{Bool, _||_, not}
 use mathlib.Core.List.{List, _++_, map, reverse}
 use Prim.Native.Nat.{ℕ}
 use lib.ListN.{length, drop, take}
-use lib.IntN.{ℤ}
+use lib.Dec.{ltb}
+use lib.IntN.{ℤ, pos}
 use lib.Signed.{leZ}
 use Rattle.terms.specs.declared.Listing.{Listing}
 use Rattle.terms.specs.declared.Screening.{Screening}
@@ -16,6 +17,7 @@ use Rattle.terms.specs.Box.{Box, shelfBoxes}
 use Rattle.terms.specs.Region.{Region, region, reach, against, along}
 use Rattle.terms.specs.Tree.{shelfRun}
 use Rattle.terms.specs.Screen.{hasFirst, first, upToFirst}
+use Rattle.terms.specs.Margin.{leastMargin, leastFace}
 use Rattle.terms.specs.Refusals.{
   Refusal,
   firstOf,
@@ -133,5 +135,11 @@ module _ (k : ℕ) (point : List ℤ) (f : Faces) where
   abbrev pub unmarkedPlaceAnswer : Placing
   unmarkedPlaceAnswer = ifDone
       unmarkedPlaceCode
-      (record { code = 0; inside = bit (unmarkedInside (region k f) (lone point)) })
-      (record { code = unmarkedPlaceCode; inside = 0 })
+      (record {
+        code = 0;
+        inside = bit (unmarkedInside (region k f) (lone point));
+        measured = bit (ltb 0 (f .h));
+        face = leastFace (region k f) (lone point);
+        margin = leastMargin (region k f) (lone point);
+      })
+      (record { code = unmarkedPlaceCode; inside = 0; measured = 0; face = 0; margin = pos 0 })

@@ -25,9 +25,13 @@ pub struct Screening {
     pub visits: u32,
 }
 
-// What the test of one point answers: inside is 1 or 0. A refusal has its number and 0.
+// What the test of one point answers: inside is 1 or 0; measured is 1 where there are faces, with the least margin and the lowest-numbered face that has
+// it, and 0 with zeros where there are none. A refusal has its number and zeros.
 #[repr(C)]
 pub struct Placing {
     pub code: u32,
-    pub inside: u32,
+    pub inside: u8,
+    pub measured: u8,
+    pub face: u16,
+    pub margin: i64,
 }

@@ -65,6 +65,10 @@ greater-from-right : (c a b : ℤ) → c ≤ℤ b → c ≤ℤ greater a b
 greater-from-right c a b h = le-trans h (le-greater-right a b)
 
 module _ (value : ℕ → ℤ) (first : ℤ) (run : List ℕ) where
+  -- What holds of the first value and of each other one holds of the least.
+  pub least-keeps : (P : ℤ → Type 0) → P first → ((i : ℕ) → i < length run → P (value (getD run i 0))) → P (leastFrom value first run)
+  least-keeps P = carried-keeps least-carried value P first run
+
   -- The least is at most the first value and each other one.
   pub least-le-first : leastFrom value first run ≤ℤ first
   least-le-first = carried-from-first least-carried value (λ z. z ≤ℤ first) (lesser-from-left first) (lesser-from-right first) first run (le-refl first)
@@ -87,7 +91,7 @@ module _ (value : ℕ → ℤ) (first : ℤ) (run : List ℕ) where
   -- Values in a range have their least and their greatest in it.
   module _ {a b : ℤ} (f : Between a first b) (each : (i : ℕ) → i < length run → Between a (value (getD run i 0)) b) where
     pub least-between : Between a (leastFrom value first run) b
-    least-between = carried-keeps least-carried value (λ z. Between a z b) first run f each
+    least-between = least-keeps (λ z. Between a z b) f each
 
     pub greatest-between : Between a (greatestFrom value first run) b
     greatest-between = carried-keeps greatest-carried value (λ z. Between a z b) first run f each

@@ -39,6 +39,7 @@ pub mod VisitsOfTheListCall
 pub mod FacesSplit
 pub mod ClosedFaces
 pub mod MirroredFaces
+pub mod Margins
 pub mod TreeIsDistinct
 pub mod TreeDepth
 pub mod RunTests

@@ -1,8 +1,11 @@
--- A refusal is the answer; where all was passed, the test of the one point, read into a value, against all faces is.
-use mathlib.Core.Path.{refl, sym, _∙_}
-use mathlib.Core.Bool.{true, false}
+-- A refusal is the answer; where all was passed, what is measured of the one point, read into a value, is.
+use mathlib.Core.Path.{_≡_, refl, ap, _∙_}
+use native.Mathlib.Omega.{arith}
+use mir.Facts.{toZ-ofZ}
+use Rattle.whole.specs.Fits.{sfits-mag}
 use Rattle.terms.specs.Lent.{faces}
 use Rattle.theory.specs.PlaceCall.{PlacePassed}
+use Rattle.region.specs.Measured.{measured-small}
 use Rattle.descent.specs.Points.{has-point}
 use Rattle.hornherder.specs.PlaceOutcome.{place-tested, place-refused, place-done}
 use Rattle.hornherder.proofs.place.hornherder_place.Statement.{statement}
@@ -21,21 +24,41 @@ passed c = place-tested _ _ _ (c .before .place-refusal .ensures) (c .if1 .left)
 point-at-requires : tie.Need-point-at-requires
 point-at-requires c κs = has-point (passed c .tested) refl
 
-inside-all-requires : tie.Need-inside-all-requires
-inside-all-requires c κs =
+measure-requires : tie.Need-measure-requires
+measure-requires c κs =
     let t = passed (c .before) in
     (c .point-at .ensures .ranges, record { few = t .tested .few; tested = rw (t .faced .offsets-size) (t .faced) })
 
+one-if-requires : tie.Need-one-if-requires
+one-if-requires c κs = tt
+
+one-if-requires-2 : tie.Need-one-if-requires-2
+one-if-requires-2 c κs = tt
+
+cast-t13 : tie.Need-cast-t13
+cast-t13 c =
+    let m = c .before .before .before in
+    let t = passed (m .before .before) .faced in
+    omega (arith, measured-small (m .measure .ensures), t .many, t .offsets-size)
+
 returns-2 : tie.Need-returns-2
 returns-2 c =
-    let b = c .before .before in
-    place-done _ _ _ (b .before .before .place-refusal .ensures) (b .before .if1 .left) (b .point-at .ensures) true (sym (c .if2 .taken) ∙ c .before .inside-all .ensures)
-
-returns-3 : tie.Need-returns-3
-returns-3 c =
-    let b = c .before .before in
-    place-done _ _ _ (b .before .before .place-refusal .ensures) (b .before .if1 .left) (b .point-at .ensures) false (sym (c .if2 .left) ∙ c .before .inside-all .ensures)
+    let m = c .before .before .before .before in
+    let b = m .before .before in
+    rw (toZ-ofZ (sfits-mag (c .struct-told .given .1 .1 .0 .1)))
+    (place-done _ _ _ (b .before .place-refusal .ensures) (b .if1 .left) (m .before .point-at .ensures) (m .measure .ensures) _ _
+    (c .before .before .before .one-if .ensures)
+    (c .before .before .one-if2 .ensures))
 
 pub hornherder-place-spec : {M : Type 1} → statement M
 hornherder-place-spec =
-    tie.close (tie.spec place-refusal-requires returns point-at-requires inside-all-requires returns-2 returns-3)
+    tie.close
+    (tie.spec
+    place-refusal-requires
+    returns
+    point-at-requires
+    measure-requires
+    one-if-requires
+    one-if-requires-2
+    cast-t13
+    returns-2)

@@ -1,15 +1,19 @@
 -- `inside_live` meets its contract. After t turns the point is above the first t live faces; a point in the box that is above all live faces is inside.
-use mathlib.Core.Path.{_≡_, sym, _∙_}
+use mathlib.Core.Path.{_≡_, refl, sym, _∙_}
 use mathlib.Core.Bool.{true}
 use Prim.Native.Nat.{ℕ, _≤_, _<_, _-_}
 use native.Mathlib.Omega.{arith}
 use lib.ListN.{getD}
 use borrow.Author.Count.{below-more}
+use borrow.Author.Needs.{sfits-of}
+use mir.Facts.{toZ-ofZ}
 use Rattle.terms.specs.Lent.{facesOf}
 use Rattle.terms.specs.Points.{lone}
-use Rattle.terms.specs.Region.{above}
+use Rattle.terms.specs.Region.{reach, above}
 use Rattle.theory.specs.Flags.{not-true, not-false}
 use Rattle.region.specs.Table.{tabled}
+use Rattle.region.specs.Above.{margin-above}
+use Rattle.region.specs.Ranges.{HasRow, has-margin}
 use Rattle.region.specs.Live.{live-inside, live-outside}
 use Rattle.region.proofs.live.inside_live.Statement.{statement}
 use Rattle.region.proofs.live.inside_live.Tie as tie
@@ -24,24 +28,47 @@ abbrev μ-loop : tie.MeasureT-loop
 loop-holds : tie.Need-loop-holds Inv-loop μ-loop
 loop-holds c = (omega arith, λ s l. absurd (omega arith))
 
-element-copy-out-point-above : tie.Need-element-copy-out-point-above Inv-loop μ-loop
-element-copy-out-point-above c = omega arith
+element-copy-out-i : tie.Need-element-copy-out-i Inv-loop μ-loop
+element-copy-out-i c = omega arith
 
-cast-point-above : tie.Need-cast-point-above Inv-loop μ-loop
-cast-point-above c =
+cast-i : tie.Need-cast-i Inv-loop μ-loop
+cast-i c =
     let s = c .before .before .before in
     omega (arith, s .before .pre .1 .1 .each (c .before .before .loop .t) (c .before .loop-test .taken), s .before .pre .1 .0 .many)
 
-point-above-requires : tie.Need-point-above-requires Inv-loop μ-loop
-point-above-requires c κs =
+-- The face at hand is one of the faces.
+face-known : (c : tie.In-loop Inv-loop μ-loop) →
+    let a = c .before .before .before .args in
+    HasRow (a .k) (facesOf (a .table .now) (a .offsets .now) (a .marks .now)) (getD (a .live .now) (c .before .loop .t) 0)
+face-known c =
     let s = c .before .before .before in
-    (s .before .pre .0, record { all = s .before .pre .1 .0; known = s .before .pre .1 .1 .each (c .before .before .loop .t) (c .before .loop-test .taken) })
+    record { all = s .pre .1 .0; known = s .pre .1 .1 .each (c .before .loop .t) (c .loop-test .taken) }
+
+point-margin-requires : tie.Need-point-margin-requires Inv-loop μ-loop
+point-margin-requires c κs = (c .before .before .before .before .pre .0, has-margin (face-known (c .before)))
+
+above-requires : tie.Need-above-requires Inv-loop μ-loop
+above-requires c κs = let w = face-known (c .before .before) in w .all .marked _ (w .known) .mark
+
+-- The test of this turn's face says what the word says.
+told : (c : tie.After-above Inv-loop μ-loop) →
+    let a = c .before .before .before .before .before .before .args in
+    c .above .result
+    ≡ above (tabled (a .k) (facesOf (a .table .now) (a .offsets .now) (a .marks .now)))
+    (getD (a .live .now) (c .before .before .before .before .loop .t) 0) (lone (a .x))
+told c =
+    let a = c .before .before .before .before .before .before .args in
+    let g = tabled (a .k) (facesOf (a .table .now) (a .offsets .now) (a .marks .now)) in
+    let i = getD (a .live .now) (c .before .before .before .before .loop .t) 0 in
+    margin-above g i (reach g i (lone (a .x)))
+    (c .above .ensures g refl)
+    (toZ-ofZ (sfits-of (c .before .point-margin .ok)) ∙ c .before .point-margin .ensures (a .marks .now))
 
 returns : tie.Need-returns Inv-loop μ-loop
 returns c =
-    let b = c .before .before .before in
-    let no = not-true (c .before .point-above .result) (c .if1 .taken) in
-    live-outside (b .before .loop .t) (b .loop-test .taken) (sym (c .before .point-above .ensures) ∙ no)
+    let b = c .before .before .before .before in
+    let no = not-true (c .before .above .result) (c .if1 .taken) in
+    live-outside (b .before .loop .t) (b .loop-test .taken) (sym (told (c .before)) ∙ no)
 
 add-t : tie.Need-add-t Inv-loop μ-loop
 add-t c = omega arith
@@ -51,9 +78,9 @@ loop-less c = omega arith
 
 loop-again : tie.Need-loop-again Inv-loop μ-loop
 loop-again c =
-    let b = c .before .before .before in
-    let yes = not-false (c .before .point-above .result) (c .if1 .left) in
-    (omega arith, below-more _ (b .before .loop .t) (b .before .loop .inv .1) (sym (c .before .point-above .ensures) ∙ yes))
+    let b = c .before .before .before .before in
+    let yes = not-false (c .before .above .result) (c .if1 .left) in
+    (omega arith, below-more _ (b .before .loop .t) (b .before .loop .inv .1) (sym (told (c .before)) ∙ yes))
 
 returns-2 : tie.Need-returns-2 Inv-loop μ-loop
 returns-2 c = live-inside (λ t l. c .before .loop .inv .1 t (omega arith))
@@ -65,9 +92,10 @@ inside-live-spec =
     Inv-loop
     μ-loop
     loop-holds
-    element-copy-out-point-above
-    cast-point-above
-    point-above-requires
+    element-copy-out-i
+    cast-i
+    point-margin-requires
+    above-requires
     returns
     add-t
     loop-less
