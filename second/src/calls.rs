@@ -1,9 +1,10 @@
-//! The five calls, and functions that look at the visits behind a list.
+//! The eight calls, and functions that look at the visits behind a list.
 
 use crate::found::{found_number, visits_of_screen};
 use crate::lists::{inside_and_outside, places};
 use crate::margin::{face_of_margin, margin};
 use crate::order::built_order;
+use crate::reading::{point_of_reading, Colour, Reading};
 use crate::refusals;
 use crate::region::{faces, inside};
 use crate::shelf::Shelf;
@@ -37,6 +38,14 @@ pub struct Placing {
     pub measured: u32,
     pub face: u16,
     pub margin: i64,
+}
+
+/// The answer of the calls that make a point from a reading: made is 1, or 0
+/// where nothing was measured; on a refusal all but the code is 0.
+#[derive(Clone, Copy, Debug, Default, PartialEq, Eq)]
+pub struct Making {
+    pub code: u32,
+    pub made: u32,
 }
 
 /// Writes the order of the points into the first `n` places of `order`.
@@ -142,6 +151,44 @@ pub fn place(
         measured: u32::from(!faces.is_empty()),
         face: face_of_margin(&faces, point).unwrap_or(0) as u16,
         margin: margin(&faces, point).unwrap_or(0) as i64,
+    }
+}
+
+/// Writes the point made from a colour of three values into the three places.
+pub fn point_from_colour(first: f32, second: f32, third: f32, place: &mut [i32]) -> Making {
+    let colour = Colour {
+        first,
+        second,
+        third,
+    };
+    point_from_reading(Reading::Colour(colour), place)
+}
+
+/// Writes the point made from a grey of one value into the three places: its
+/// number, then 0, 0.
+pub fn point_from_grey(value: f32, place: &mut [i32]) -> Making {
+    point_from_reading(Reading::Grey(value), place)
+}
+
+/// Makes no point, since nothing was measured, and writes nothing.
+pub fn point_from_nothing(place: &mut [i32]) -> Making {
+    point_from_reading(Reading::Nothing, place)
+}
+
+/// Writes the point made from the reading, if there is one, into the three
+/// places.
+fn point_from_reading(reading: Reading, place: &mut [i32]) -> Making {
+    let code = refusals::of_reading(reading, place.len());
+    if code != 0 {
+        return Making { code, made: 0 };
+    }
+    let point = point_of_reading(reading);
+    if let Some(point) = &point {
+        place.copy_from_slice(point);
+    }
+    Making {
+        code: 0,
+        made: u32::from(point.is_some()),
     }
 }
 

@@ -3,10 +3,12 @@
 
 pub mod bound;
 pub mod calls;
+pub mod exact;
 pub mod found;
 pub mod lists;
 pub mod margin;
 pub mod order;
+pub mod reading;
 pub mod refusals;
 pub mod region;
 pub mod shelf;
@@ -15,7 +17,7 @@ pub mod visits;
 
 pub use bound::{binary_digits, is_square, s};
 pub use calls::{
-    build, check, list, open_slots, place, screen, visits_of_face, visits_of_region, Listing,
-    Placing, Screening,
+    build, check, list, open_slots, place, point_from_colour, point_from_grey, point_from_nothing,
+    screen, visits_of_face, visits_of_region, Listing, Making, Placing, Screening,
 };
 pub use text::shelf_text;

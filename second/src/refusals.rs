@@ -1,6 +1,7 @@
 //! The table of numbers returned, test by test.
 
 use crate::order::is_tree;
+use crate::reading::{number_of_value, values, Reading};
 use crate::region::{CLOSED, OPEN};
 
 /// One test of the table: its number, and whether it holds.
@@ -60,6 +61,13 @@ pub fn face_wrong(normals: &[i32], offsets: &[i64]) -> bool {
 pub fn marks_wrong(h: usize, marks: &[u8]) -> bool {
     let another = |&mark: &u8| mark != CLOSED && mark != OPEN;
     marks.len() != h || marks.iter().any(another)
+}
+
+/// Number 12: a value of the reading is not finite, or not from -128 up to but
+/// not including 128.
+pub fn value_wrong(reading: Reading) -> bool {
+    let wrong = |v: f32| number_of_value(v).is_none();
+    values(reading).into_iter().any(wrong)
 }
 
 /// What build returns: tests 1 to 5.
@@ -157,4 +165,10 @@ pub fn of_place(
         (8, &|| face_wrong(normals, offsets)),
         (11, &|| marks_wrong(h, marks)),
     ])
+}
+
+/// What the three calls that make a point return: tests 3 and 12, for every
+/// reading. Of the lent place only its length counts.
+pub fn of_reading(reading: Reading, place_length: usize) -> u32 {
+    first_held(&[(3, &|| place_length != 3), (12, &|| value_wrong(reading))])
 }
