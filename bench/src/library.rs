@@ -4,7 +4,7 @@ use crate::region::Region;
 use crate::stock::Stock;
 use hornherder::raw;
 
-pub use hornherder::raw::{Listing, Screening};
+pub use hornherder::raw::{Listing, Making, Screening};
 
 /// Arranges the shelf.
 pub fn build(stock: &Stock, order: &mut [u32]) -> u32 {
@@ -28,4 +28,9 @@ pub fn list(stock: &Stock, order: &[u32], region: &Region, list: &mut [u32]) -> 
 pub fn screen(stock: &Stock, order: &[u32], region: &Region) -> Screening {
     let (normals, offsets, marks) = (&region.normals, &region.offsets, &region.marks);
     raw::screen(stock.k, stock.n, region.h, &stock.points, order, normals, offsets, marks)
+}
+
+/// Makes a point of a colour.
+pub fn point_from_colour(colour: &[f32; 3], place: &mut [i32]) -> Making {
+    raw::point_from_colour(colour[0], colour[1], colour[2], place)
 }

@@ -5,6 +5,7 @@ mod against_select;
 mod builder;
 mod builds;
 mod clock;
+mod colours;
 mod cpp;
 mod hard;
 mod json;

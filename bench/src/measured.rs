@@ -16,6 +16,7 @@ pub enum Call {
     Build,
     List,
     Screen,
+    Colours,
 }
 
 /// A workload and the best time of each contender, in microseconds.
@@ -29,6 +30,11 @@ pub struct Measured {
 }
 
 impl Measured {
+    /// Whether the workload is a build.
+    pub fn is_build(&self) -> bool {
+        matches!(self.call, Call::Build)
+    }
+
     /// The time of the contender of this name. A walk is what its call takes beyond the check call.
     pub fn time(&self, name: &str) -> f64 {
         let beyond_check = |call: &str| (self.time(call) - self.time("check")).max(0.0);

@@ -1,6 +1,7 @@
 //! Which shelves and regions are measured.
 
 use crate::builds;
+use crate::colours;
 use crate::hard::{AGAINST_PIVOTS, HARD};
 use crate::lists::{self, Shelf};
 use crate::measured::Measured;
@@ -25,7 +26,7 @@ impl Plan {
         }
     }
 
-    /// Every workload: the sizes, the screens, the dimensions, the other kinds, the hard ones.
+    /// Every workload: the sizes, the screens, the colours, the dimensions, the other kinds, the hard ones.
     pub fn measure(&self) -> Vec<Measured> {
         let mut out = Vec::new();
         for n in self.sizes() {
@@ -34,6 +35,7 @@ impl Plan {
             out.extend(self.shelf(CLUSTERED, DIMENSION, n, regions));
         }
         out.extend(self.screens());
+        out.push(colours::measure(self.seed, 2 * self.rounds));
         if self.quick {
             out.extend(self.shelf(AGAINST_PIVOTS, DIMENSION, FULL, no_region));
             return out;

@@ -57,12 +57,16 @@ const SCREEN_PAIRS: [(&str, &str); 5] = [
     ("screen", "CGAL, any point"),
 ];
 
+/// What is compared for colours that become points.
+const COLOUR_PAIRS: [(&str, &str); 1] = [("points from colours", "floor in Rust")];
+
 /// The rows of one workload, with no target yet.
 pub fn rows(measured: &Measured) -> Vec<Row> {
     let pairs: &[(&'static str, &'static str)] = match measured.call {
         Call::Build => &BUILD_PAIRS,
         Call::List => &LIST_PAIRS,
         Call::Screen => &SCREEN_PAIRS,
+        Call::Colours => &COLOUR_PAIRS,
     };
     let row = |&(call, against): &(&'static str, &'static str)| Row {
         call,

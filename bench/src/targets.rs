@@ -41,14 +41,14 @@ pub fn with_targets(mut rows: Vec<Row>, measured: &[Measured]) -> Vec<Row> {
 
 /// The build of one kind of points in three dimensions, where it was measured.
 fn build_of<'a>(measured: &'a [Measured], points: &str, n: usize) -> Option<&'a Measured> {
-    let mut builds = measured.iter().filter(|m| m.asked.is_none());
+    let mut builds = measured.iter().filter(|m| m.is_build());
     builds.find(|m| m.points == points && m.k == DIMENSION && m.n == n)
 }
 
 /// The slowest build of a full shelf against the one of clustered points: at most 3.
 fn worst_build(measured: &[Measured]) -> Option<Row> {
     let ordinary = build_of(measured, "clustered", FULL)?;
-    let full = |m: &&Measured| m.asked.is_none() && m.k == DIMENSION && m.n == FULL;
+    let full = |m: &&Measured| m.is_build() && m.k == DIMENSION && m.n == FULL;
     let times = measured.iter().filter(full);
     let worst = times.max_by(|x, y| x.time("build").total_cmp(&y.time("build")))?;
     Some(Row {

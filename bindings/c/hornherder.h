@@ -6,6 +6,8 @@
  *   hornherder_list      lists the points inside and outside a region, by way of the shelf
  *   hornherder_screen    says whether any point is inside a region, and which is the first
  *   hornherder_place     tests one point against a region, and says by how much
+ *   hornherder_point_from_colour, hornherder_point_from_grey and hornherder_point_from_nothing
+ *                        make a point of what the renderer measured
  *   hornherder_version   says to which version of this file the library belongs
  *
  * Points. A point is k whole numbers. The n points are numbered 0 to n - 1 and lent one after the
@@ -32,6 +34,14 @@
  * Regions side by side. Give one of them the face between them closed, and the other the same face
  * open, with its normal and its offset negated: every point is then above exactly one of the two.
  *
+ * Readings. What the renderer measured is a colour of three floats, a grey of one, or nothing. A
+ * value v from -128 up to but not including 128 becomes the greatest whole number not above 256
+ * times v, exactly: negative zero gives 0, and the negative float nearest zero gives -1. A colour
+ * gives the point of its three numbers, a grey that of its number, then 0, 0; nothing measured gives
+ * no point. The points made have k = 3 and are never refused for a coordinate. The thread that calls
+ * must have the float environment that C starts with: in one that takes subnormal floats for zero,
+ * as a renderer may ask of the processor, negative ones may give 0 in place of -1.
+ *
  * Buffers. Each buffer is lent as a pointer and a length, which counts elements, not bytes. The
  * pointer may be NULL exactly where the length is 0. It must be aligned for its type, as every
  * array in C is. The buffers of one call must not overlap. Buffers behind a pointer to const are
@@ -41,9 +51,9 @@
  * Refusals. A call that cannot be done returns one of the numbers below. Each call names those that
  * it may return in the order of its tests, makes all the tests before its first write, and returns
  * the first that holds. A refused call changes no lent number, and every other number in its answer
- * is 0. Apart from the rules on buffers above there is nothing that a caller must see to: any k, n,
- * h, lengths and lent numbers get the answer promised here. hornherder_refusal_text says what a
- * number means.
+ * is 0. Apart from the rules on floats and buffers above there is nothing that a caller must see to:
+ * any k, n, h, values, lengths and lent numbers get the answer promised here.
+ * hornherder_refusal_text says what a number means.
  *
  * Threads. The library has no state. Any number of threads may call at once, as long as nobody
  * writes a buffer while it is lent, and nobody reads one while it is lent to be written.
@@ -76,7 +86,7 @@ extern "C" {
  * and the shared library has behind its name. It rises by one with each change of a name, a layout
  * or the meaning of a number.
  */
-#define HORNHERDER_VERSION 5
+#define HORNHERDER_VERSION 6
 
 /* k, how many coordinates a point has. */
 #define HORNHERDER_MIN_DIMENSION 1
@@ -123,6 +133,7 @@ extern "C" {
 #define HORNHERDER_FACE_RANGE 8u
 #define HORNHERDER_NOT_THE_TREE 9u
 #define HORNHERDER_MARKS 11u
+#define HORNHERDER_VALUE_RANGE 12u
 
 /* When a call returns this number, and the likely cause. */
 static inline const char *hornherder_refusal_text(uint32_t number)
@@ -135,7 +146,7 @@ static inline const char *hornherder_refusal_text(uint32_t number)
     case HORNHERDER_TOO_MANY_POINTS:
         return "n is over 65,535; likely: a stock for several shelves";
     case HORNHERDER_POINTS_LENGTH:
-        return "the points are not k times n long (one point: not k); "
+        return "the points are not k times n long (one point: not k; a place for a point: not 3); "
                "likely: n counted in coordinates, or a k of another shelf";
     case HORNHERDER_SHORT_BUFFER:
         return "the order or the list buffer is shorter than n; "
@@ -158,6 +169,9 @@ static inline const char *hornherder_refusal_text(uint32_t number)
     case HORNHERDER_MARKS:
         return "the marks are not h long, or a mark is not 0 or 1; "
                "likely: closed faces left without a mark, or marks never set";
+    case HORNHERDER_VALUE_RANGE:
+        return "a value is not finite, or not from -128 up to but not including 128; "
+               "likely: a pixel that was never rendered, or values on a scale of 0 to 255";
     default:
         return "no number of this version";
     }
@@ -187,6 +201,12 @@ typedef struct {
     uint16_t face;    /* the lowest-numbered face with the least margin; 0 where not measured */
     int64_t margin;   /* the point's least margin over all faces; 0 where not measured */
 } hornherder_placing;
+
+/* What the calls that make a point answer. */
+typedef struct {
+    uint32_t code; /* HORNHERDER_DONE, or the refusal */
+    uint32_t made; /* 1: a point was written; 0: nothing was measured, or the call was refused */
+} hornherder_making;
 
 /*
  * Arranges the points: writes their shelf into order[0] to order[n - 1]. What the order held before
@@ -301,6 +321,37 @@ hornherder_placing hornherder_place(size_t k, size_t h, const int32_t *point, si
                                     const int32_t *normals, size_t normals_len,
                                     const int64_t *offsets, size_t offsets_len,
                                     const uint8_t *marks, size_t marks_len);
+
+/*
+ * Makes a point of a colour: writes the numbers of its three values into place[0] to place[2].
+ *
+ *   place    exactly three places
+ *
+ * Answers HORNHERDER_DONE with made 1, or a refusal, 3, then 12, with made 0: where one value is
+ * refused no place is written, be it the last.
+ */
+hornherder_making hornherder_point_from_colour(float first, float second, float third,
+                                               int32_t *place, size_t place_len);
+
+/*
+ * Makes a point of a grey: writes the number of its value into place[0], and 0 into place[1] and
+ * place[2].
+ *
+ *   place    exactly three places
+ *
+ * Answers HORNHERDER_DONE with made 1, or a refusal, 3, then 12, with made 0.
+ */
+hornherder_making hornherder_point_from_grey(float value, int32_t *place, size_t place_len);
+
+/*
+ * Makes no point, since nothing was measured, and writes nothing. So every reading has its call, and
+ * made says whether there is a point.
+ *
+ *   place    exactly three places, which are left alone
+ *
+ * Answers HORNHERDER_DONE with made 0, or the refusal 3.
+ */
+hornherder_making hornherder_point_from_nothing(int32_t *place, size_t place_len);
 
 /*
  * Answers the version of the library: HORNHERDER_VERSION where it belongs to this file. With any

@@ -90,10 +90,9 @@ static void take_back(const lent *buffer, size_t size)
     free(after);
 }
 
-/* Passes a call on, and its buffers and its answer back. */
-static wire_answer forward(int call, size_t k, size_t n, size_t h, const lent *buffers)
+/* Passes a request on with its buffers, whose lengths it fills in, and the buffers and the answer back. */
+static wire_answer pass(wire_request request, const lent *buffers)
 {
-    wire_request request = {(uint64_t)call, k, n, h, {0}, {0}};
     wire_answer answer;
     pthread_mutex_lock(&one_at_a_time);
     if (to_serve < 0)
@@ -112,6 +111,21 @@ static wire_answer forward(int call, size_t k, size_t n, size_t h, const lent *b
         take_back(&buffers[i], buffers[i].length * wire_width(i));
     pthread_mutex_unlock(&one_at_a_time);
     return answer;
+}
+
+/* Passes a call on that has no floats. */
+static wire_answer forward(int call, size_t k, size_t n, size_t h, const lent *buffers)
+{
+    const wire_request request = {(uint64_t)call, k, n, h, {0}, {0}, {0, 0, 0}, 0};
+    return pass(request, buffers);
+}
+
+/* Passes a call on that makes a point of these values. */
+static hornherder_making forward_reading(int call, float first, float second, float third, int32_t *place, size_t place_len)
+{
+    const wire_request request = {(uint64_t)call, 0, 0, 0, {0}, {0}, {first, second, third}, 0};
+    const lent buffers[WIRE_BUFFERS] = {{place, place_len, 1}};
+    return pass(request, buffers).making;
 }
 
 uint32_t hornherder_build(size_t k, size_t n, const int32_t *points, size_t points_len, uint32_t *order, size_t order_len)
@@ -151,6 +165,21 @@ hornherder_placing hornherder_place(size_t k, size_t h, const int32_t *point, si
     const lent buffers[WIRE_BUFFERS] = {
         {point, point_len, 0}, {NULL, 0, 0}, {normals, normals_len, 0}, {offsets, offsets_len, 0}, {marks, marks_len, 0}};
     return forward(WIRE_PLACE, k, 0, h, buffers).placing;
+}
+
+hornherder_making hornherder_point_from_colour(float first, float second, float third, int32_t *place, size_t place_len)
+{
+    return forward_reading(WIRE_POINT_FROM_COLOUR, first, second, third, place, place_len);
+}
+
+hornherder_making hornherder_point_from_grey(float value, int32_t *place, size_t place_len)
+{
+    return forward_reading(WIRE_POINT_FROM_GREY, value, 0, 0, place, place_len);
+}
+
+hornherder_making hornherder_point_from_nothing(int32_t *place, size_t place_len)
+{
+    return forward_reading(WIRE_POINT_FROM_NOTHING, 0, 0, 0, place, place_len);
 }
 
 uint32_t hornherder_version(void)

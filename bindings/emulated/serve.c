@@ -73,6 +73,21 @@ static void look_at_stack(void)
             _exit(1);
 }
 
+/* Makes the call of a request that makes a point of a reading, in this place. */
+static hornherder_making make(const wire_request *r, int32_t *place)
+{
+    const float *v = r->value;
+    const uint64_t length = r->length[WIRE_POINTS];
+    switch (r->call) {
+    case WIRE_POINT_FROM_COLOUR:
+        return hornherder_point_from_colour(v[0], v[1], v[2], place, length);
+    case WIRE_POINT_FROM_GREY:
+        return hornherder_point_from_grey(v[0], place, length);
+    default:
+        return hornherder_point_from_nothing(place, length);
+    }
+}
+
 /* Makes the call of a request with these buffers. */
 static wire_answer call(const wire_request *r, void **b)
 {
@@ -101,6 +116,11 @@ static wire_answer call(const wire_request *r, void **b)
     case WIRE_PLACE:
         answer.placing = hornherder_place(r->k, r->h, points, length[WIRE_POINTS], normals, length[WIRE_NORMALS], offsets,
                                           length[WIRE_OFFSETS], marks, length[WIRE_MARKS]);
+        return answer;
+    case WIRE_POINT_FROM_COLOUR:
+    case WIRE_POINT_FROM_GREY:
+    case WIRE_POINT_FROM_NOTHING:
+        answer.making = make(r, (int32_t *)b[WIRE_POINTS]);
         return answer;
     case WIRE_VERSION:
         answer.code = hornherder_version();

@@ -8,9 +8,19 @@
 #include "../c/hornherder.h"
 
 /* The calls. */
-enum { WIRE_BUILD, WIRE_CHECK, WIRE_LIST, WIRE_SCREEN, WIRE_PLACE, WIRE_VERSION };
+enum {
+    WIRE_BUILD,
+    WIRE_CHECK,
+    WIRE_LIST,
+    WIRE_SCREEN,
+    WIRE_PLACE,
+    WIRE_POINT_FROM_COLOUR,
+    WIRE_POINT_FROM_GREY,
+    WIRE_POINT_FROM_NOTHING,
+    WIRE_VERSION
+};
 
-/* The buffers. A call that has no such buffer lends it as NULL and 0; hornherder_place has its point in the first. */
+/* The buffers. A call that has no such buffer lends it as NULL and 0; calls for one point have it, or its place, in the first. */
 enum { WIRE_POINTS, WIRE_ORDER, WIRE_NORMALS, WIRE_OFFSETS, WIRE_MARKS, WIRE_LIST_BUFFER, WIRE_BUFFERS };
 
 /* The most bytes that a buffer may have here: enough for all that the library accepts and some more. */
@@ -20,6 +30,8 @@ typedef struct {
     uint64_t call, k, n, h;
     uint64_t length[WIRE_BUFFERS]; /* elements */
     uint64_t null[WIRE_BUFFERS];   /* 1 where the pointer was NULL */
+    float value[3];                /* of a reading, those it has first */
+    uint32_t unused;               /* 0, so that no byte is left unset */
 } wire_request;
 
 /* The answer of a call; the code alone where that is a number. The listing comes first: it has every byte, so clearing it clears all. */
@@ -27,6 +39,7 @@ typedef union {
     hornherder_listing listing;
     hornherder_screening screening;
     hornherder_placing placing;
+    hornherder_making making;
     uint32_t code;
 } wire_answer;
 

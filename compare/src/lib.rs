@@ -9,6 +9,7 @@ pub mod damage;
 pub mod faces;
 pub mod lent;
 pub mod margins;
+pub mod readings;
 pub mod seen;
 pub mod shelves;
 pub mod stock;

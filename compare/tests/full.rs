@@ -63,10 +63,22 @@ fn deepest_regions(k: usize, points: &[i32], order: &[u32], marks: &[u8; 32]) {
     assert!(answer.visits > 0);
 }
 
+/// Makes a point of each kind of reading.
+fn every_reading() {
+    let mut place = [0; 3];
+    let answers = [
+        raw::point_from_colour(0.1, -127.3, 127.3, &mut place),
+        raw::point_from_grey(-0.1, &mut place),
+        raw::point_from_nothing(&mut place),
+    ];
+    assert_eq!(answers.map(|answer| answer.made), [1, 1, 0]);
+}
+
 /// The deepest calls there are need no more stack than the header says.
 #[test]
 fn stack() {
     let deepest = || {
+        every_reading();
         for k in 1..=4 {
             let points: Vec<i32> = (0..k * N)
                 .map(|i| (i * 7_919 % 65_536) as i32 - 32_768)

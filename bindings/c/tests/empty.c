@@ -21,6 +21,12 @@ static int not_measured(hornherder_placing answer, uint32_t code, uint8_t inside
     return answer.code == code && answer.inside == inside && answer.measured == 0 && answer.face == 0 && answer.margin == 0;
 }
 
+/* 1 where a making is the refusal of places that are not three. */
+static int not_three(hornherder_making answer)
+{
+    return answer.code == HORNHERDER_POINTS_LENGTH && answer.made == 0;
+}
+
 int main(void)
 {
     const int32_t zero[HORNHERDER_MAX_DIMENSION] = {0, 0, 0, 0};
@@ -46,6 +52,8 @@ int main(void)
         right &= finds_nothing(hornherder_screen(k, 0, 1, NULL, 0, NULL, 0, zero, k, &offset, 1, NULL, 0), HORNHERDER_MARKS);
         right &= not_measured(unmarked, HORNHERDER_MARKS, 0);
     }
+    right &= not_three(hornherder_point_from_colour(0, 0, 0, NULL, 0)) && not_three(hornherder_point_from_grey(0, NULL, 0));
+    right &= not_three(hornherder_point_from_nothing(NULL, 0));
     puts(right ? "right" : "wrong");
     return 0;
 }

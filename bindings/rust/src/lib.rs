@@ -3,8 +3,8 @@
 //! The work is done by the archive `libhornherder.a`, whose every call is proved to give exactly the
 //! answer that its definitions say. This crate has two layers:
 //!
-//! - [`Shelf`], [`Region`], [`Listing`], [`Screening`] and [`Placing`], which derive the numbers of points
-//!   and of faces and give each refusal as a [`Refusal`];
+//! - [`Shelf`], [`Region`], [`Listing`], [`Screening`], [`Placing`] and [`Reading`], which derive the numbers
+//!   of points and of faces and give each refusal as a [`Refusal`];
 //! - [`raw`], the calls themselves with every number and slice as given.
 //!
 //! ```
@@ -35,7 +35,9 @@
 //! # Ok::<(), hornherder::Refusal>(())
 //! ```
 //!
-//! The first shelf or region that is made asks the library for its version; one of another version is
+//! A [`Reading`] makes points of the renderer's floats.
+//!
+//! The first shelf, region or point that is made asks the library for its version; one of another version is
 //! refused with [`Refusal::OtherVersion`].
 //!
 //! What a call costs: a list call checks the order first. On 65,535 points with 8 faces that is about
@@ -51,6 +53,7 @@
 mod listing;
 mod placing;
 pub mod raw;
+mod reading;
 mod refusal;
 mod region;
 mod screening;
@@ -58,6 +61,7 @@ mod shelf;
 
 pub use listing::{Listing, Outside};
 pub use placing::{Margin, Placing};
+pub use reading::Reading;
 pub use refusal::Refusal;
 pub use region::Region;
 pub use screening::Screening;

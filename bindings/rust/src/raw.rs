@@ -27,11 +27,18 @@
 //! assert_eq!(raw::place(1, 1, &[3], &[1], &[5], &closed).margin, -2);
 //! assert_eq!(raw::place(1, 0, &[5], &[], &[], &[]).measured, 0); // there is no face
 //! assert_eq!(raw::place(1, 1, &[5], &[1], &[5], &[]).code, 11); // a closed face has a mark too
+//!
+//! let mut place = [7; 3];
+//! let answer = raw::point_from_colour(1.0, -0.5, 0.1, &mut place);
+//! assert_eq!((answer.made, place), (1, [256, -128, 25]));
+//! assert_eq!(raw::point_from_grey(f32::NAN, &mut place).code, 12);
+//! assert_eq!(raw::point_from_nothing(&mut place).made, 0);
+//! assert_eq!(place, [256, -128, 25]); // as they were
 //! assert_eq!(raw::version(), raw::VERSION);
 //! ```
 
 /// The version of the calls and of the archive: the header's `HORNHERDER_VERSION`.
-pub const VERSION: u32 = 5;
+pub const VERSION: u32 = 6;
 
 /// The stack that is enough for any call, in bytes.
 pub const STACK_BYTES: usize = 32_768;
@@ -89,6 +96,17 @@ pub struct Placing {
     /// The least margin over all faces: of a face, the sum of products less its offset. 0 where there are no
     /// faces.
     pub margin: i64,
+}
+
+/// What [`point_from_colour`], [`point_from_grey`] and [`point_from_nothing`] answer.
+#[must_use]
+#[repr(C)]
+#[derive(Clone, Copy, Debug, Default, PartialEq, Eq)]
+pub struct Making {
+    /// 0 for done, or the number of the refusal.
+    pub code: u32,
+    /// 1 where a point was written, 0 where nothing was measured.
+    pub made: u32,
 }
 
 extern "C" {
@@ -156,6 +174,18 @@ extern "C" {
         marks: *const u8,
         marks_len: usize,
     ) -> Placing;
+
+    fn hornherder_point_from_colour(
+        first: f32,
+        second: f32,
+        third: f32,
+        place: *mut i32,
+        place_len: usize,
+    ) -> Making;
+
+    fn hornherder_point_from_grey(value: f32, place: *mut i32, place_len: usize) -> Making;
+
+    fn hornherder_point_from_nothing(place: *mut i32, place_len: usize) -> Making;
 
     fn hornherder_version() -> u32;
 }
@@ -289,6 +319,25 @@ pub fn place(
             marks.len(),
         )
     }
+}
+
+/// Writes the point of a colour into the three places: of each value the greatest whole number not above 256
+/// times it. Refusals: 3, then 12.
+pub fn point_from_colour(first: f32, second: f32, third: f32, place: &mut [i32]) -> Making {
+    // SAFETY: as said above.
+    unsafe { hornherder_point_from_colour(first, second, third, place.as_mut_ptr(), place.len()) }
+}
+
+/// Writes the point of a grey into the three places: its number, then 0, 0. Refusals: 3, then 12.
+pub fn point_from_grey(value: f32, place: &mut [i32]) -> Making {
+    // SAFETY: as said above.
+    unsafe { hornherder_point_from_grey(value, place.as_mut_ptr(), place.len()) }
+}
+
+/// Makes no point, since nothing was measured, and leaves the three places alone. Refusal: 3.
+pub fn point_from_nothing(place: &mut [i32]) -> Making {
+    // SAFETY: as said above.
+    unsafe { hornherder_point_from_nothing(place.as_mut_ptr(), place.len()) }
 }
 
 /// The version of the library that is linked: [`VERSION`] where it is the one that this crate is for. With

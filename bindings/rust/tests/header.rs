@@ -71,7 +71,7 @@ fn same_constants() {
     assert!(header.is_empty(), "only in the header: {header:?}");
 }
 
-/// Every answer has 16 bytes, and that of the one-point test has its numbers where the C test of the margins asks for them.
+/// Every answer has 16 bytes, or 8 where a point is made, and its numbers where the C tests of margins and readings ask for them.
 #[test]
 fn same_layout() {
     assert_eq!(size_of::<raw::Listing>(), 16);
@@ -81,6 +81,8 @@ fn same_layout() {
     assert_eq!(offset_of!(raw::Placing, measured), 5);
     assert_eq!(offset_of!(raw::Placing, face), 6);
     assert_eq!(offset_of!(raw::Placing, margin), 8);
+    assert_eq!(size_of::<raw::Making>(), 8);
+    assert_eq!(offset_of!(raw::Making, made), 4);
 }
 
 /// The crate's version starts with the header's, which is the library's.

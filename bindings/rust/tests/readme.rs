@@ -1,15 +1,18 @@
-//! The repository's README shows the example of this crate's README, which is run as a doc test.
+//! The repository's README shows the examples of this crate's README, which are run as doc tests.
 
-/// The first block of Rust in a page.
-fn example(page: &str) -> &str {
-    let (_, block) = page.split_once("```rust\n").expect("a block of Rust");
-    block.split_once("```").expect("the end of the block").0
+/// The blocks of Rust in a page.
+fn examples(page: &str) -> Vec<&str> {
+    let blocks = page.split("```rust\n").skip(1);
+    blocks
+        .map(|block| block.split_once("```").expect("the end of the block").0)
+        .collect()
 }
 
-/// Both pages have the same example.
+/// Both pages have the same two examples.
 #[test]
-fn same_example() {
-    let own = include_str!("../README.md");
-    let repository = include_str!("../../../README.md");
-    assert_eq!(example(own), example(repository));
+fn same_examples() {
+    let own = examples(include_str!("../README.md"));
+    let repository = examples(include_str!("../../../README.md"));
+    assert_eq!(own.len(), 2);
+    assert_eq!(own, repository);
 }

@@ -10,4 +10,6 @@ pub mod ScreenOutcome
 pub mod ScreenPromises
 pub mod PlaceOutcome
 pub mod PlacePromises
+pub mod PointOutcome
+pub mod PointPromises
 pub mod BinPromises

@@ -7,9 +7,12 @@ use Prim.Native.Nat.{ℕ, suc}
 use native.Mathlib.Omega.{arith}
 use lib.ListN.{length, getD, drop, replicate}
 use lib.IntN.{ℤ, pos, negℤ}
+use lib.Ieee.{Float, binary32, ofBits}
 use Rattle.whole.specs.Order.{lesser, greater}
 use Rattle.whole.specs.IndexedSum.{sumTo}
 use Rattle.whole.specs.IndexedTotal.{totalTo}
+use Rattle.terms.specs.declared.Reading.{Reading}
+use Rattle.terms.specs.declared.Making.{Making}
 use Rattle.terms.specs.declared.Listing.{Listing}
 use Rattle.terms.specs.declared.Screening.{Screening}
 use Rattle.terms.specs.declared.Placing.{Placing}
@@ -22,6 +25,9 @@ use Rattle.terms.specs.Box.{Box, leastFrom, greatestFrom, rootBox, boxes
 use Rattle.terms.specs.Region.{Region, region, reach, aboveAt, inside, isSettled, isOpen}
 use Rattle.terms.specs.Visits.{openSlots, visits}
 use Rattle.terms.specs.Bound.{digitsWithin, digits, S, isSquare}
+use Rattle.terms.specs.Value.{inRange, coordinateOf}
+use Rattle.terms.specs.Reading.{colour, grey, nothing, gives}
+use Rattle.terms.specs.PointCall.{pointCode, pointAnswer, pointAfter}
 use Rattle.terms.specs.Refusals.{firstOf}
 use Rattle.terms.specs.BuildCall.{Built, buildAnswer}
 use Rattle.terms.specs.CheckCall.{checkAnswer}
@@ -74,6 +80,7 @@ pub data Row : Type 0 where
   sums : (n k sum : ℕ) → Row
   attains : Shelf → Faces → Row
   squares : (k : ℕ) → Faces → List Bool → Row
+  makes : Reading → (place : List ℤ) (answer : Making) (after : List ℤ) → Row
 
 -- What it is for a row to hold: the call's definition gives what the row says.
 abbrev pub Holds : Row → Type 0
@@ -89,6 +96,7 @@ Holds (reaches s f face number sum) = reach (cut s f) face (pointOf (s .lent) nu
 Holds (sums n k sum) = S n k ≡ sum
 Holds (attains s f) = visits (cut s f) (pointOf (s .lent)) (slots s) ≡ S (slotsOf (s .lent)) (s .lent .k)
 Holds (squares k f answers) = map (isSquare (region k f)) (rising 0 (f .h)) ≡ answers
+Holds (makes r place answer after) = (pointAnswer r place ≡ answer) × (pointAfter r place ≡ after)
 
 -- Every row of a table holds.
 infixr 20 _by_also_
@@ -931,6 +939,153 @@ margin-least-of-all = tests 4 (minus 32768 ∷ minus 32768 ∷ minus 32768 ∷ m
 abbrev pub margin-greatest-of-all : Row
 margin-greatest-of-all = tests 4 (minus 32768 ∷ minus 32768 ∷ minus 32768 ∷ minus 32768 ∷ []) furthestBelow (measures 1 0 (pos 12884770816))
 
+-- ---- points from readings
+
+-- The float that has these bits.
+abbrev float : ℕ → Float
+float bits = ofBits binary32 bits
+
+-- 1.
+abbrev floatOne : Float
+floatOne = float 1065353216
+
+-- 1/2.
+abbrev half : Float
+half = float 1056964608
+
+-- -1/2.
+abbrev minusHalf : Float
+minusHalf = float 3204448256
+
+-- Negative zero.
+abbrev minusZero : Float
+minusZero = float 2147483648
+
+-- The negative float nearest zero.
+abbrev lastBelowZero : Float
+lastBelowZero = float 2147483649
+
+-- 1 1/2 of a 256th.
+abbrev oneAndAHalf : Float
+oneAndAHalf = float 1002438656
+
+-- -1 1/2 of a 256th.
+abbrev minusOneAndAHalf : Float
+minusOneAndAHalf = float 3149922304
+
+-- The largest float below 128.
+abbrev lastBelow128 : Float
+lastBelow128 = float 1124073471
+
+-- 128.
+abbrev float128 : Float
+float128 = float 1124073472
+
+-- -128.
+abbrev minus128 : Float
+minus128 = float 3271557120
+
+-- The next float below -128.
+abbrev nextBelowMinus128 : Float
+nextBelowMinus128 = float 3271557121
+
+-- Infinity, and the same with a minus.
+abbrev infinite : Float
+infinite = float 2139095040
+
+abbrev minusInfinite : Float
+minusInfinite = float 4286578688
+
+-- No number.
+abbrev notANumber : Float
+notANumber = float 2143289344
+
+-- The answer of a call that made a point, that made none, or that is refused.
+abbrev made : Making
+made = record { code = 0; made = 1 }
+
+abbrev madeNone : Making
+madeNone = record { code = 0; made = 0 }
+
+abbrev unmade : ℕ → Making
+unmade c = record { code = c; made = 0 }
+
+-- Each value times 256.
+abbrev pub colour-makes-a-point : Row
+colour-makes-a-point = makes (colour floatOne half minusHalf) (pos 7 ∷ pos 8 ∷ pos 9 ∷ []) made (pos 256 ∷ pos 128 ∷ minus 128 ∷ [])
+
+-- A grey's number, then 0 and 0.
+abbrev pub grey-makes-a-point : Row
+grey-makes-a-point = makes (grey floatOne) (pos 7 ∷ pos 8 ∷ pos 9 ∷ []) made (pos 256 ∷ pos 0 ∷ pos 0 ∷ [])
+
+-- 1 1/2 and -1 1/2 go down to 1 and -2; half of 256 is whole.
+abbrev pub colour-between-two-numbers : Row
+colour-between-two-numbers = makes (colour oneAndAHalf minusOneAndAHalf half) (pos 7 ∷ pos 8 ∷ pos 9 ∷ []) made (pos 1 ∷ minus 2 ∷ pos 128 ∷ [])
+
+-- Negative zero gives 0.
+abbrev pub grey-minus-zero : Row
+grey-minus-zero = makes (grey minusZero) (pos 7 ∷ pos 8 ∷ pos 9 ∷ []) made (pos 0 ∷ pos 0 ∷ pos 0 ∷ [])
+
+-- The negative float nearest zero gives -1.
+abbrev pub grey-last-below-zero : Row
+grey-last-below-zero = makes (grey lastBelowZero) (pos 7 ∷ pos 8 ∷ pos 9 ∷ []) made (minus 1 ∷ pos 0 ∷ pos 0 ∷ [])
+
+-- The largest float below 128 is 32,767 and more, but not 32,768.
+abbrev pub grey-last-below-128 : Row
+grey-last-below-128 = makes (grey lastBelow128) (pos 7 ∷ pos 8 ∷ pos 9 ∷ []) made (pos 32767 ∷ pos 0 ∷ pos 0 ∷ [])
+
+-- -128 is in range.
+abbrev pub grey-minus-128 : Row
+grey-minus-128 = makes (grey minus128) (pos 7 ∷ pos 8 ∷ pos 9 ∷ []) made (minus 32768 ∷ pos 0 ∷ pos 0 ∷ [])
+
+-- The greatest and the least coordinate, and -1.
+abbrev pub colour-of-extremes : Row
+colour-of-extremes = makes (colour lastBelow128 minus128 lastBelowZero) (pos 7 ∷ pos 8 ∷ pos 9 ∷ []) made (pos 32767 ∷ minus 32768 ∷ minus 1 ∷ [])
+
+-- 128 is not.
+abbrev pub grey-refuses-128 : Row
+grey-refuses-128 = makes (grey float128) (pos 7 ∷ pos 8 ∷ pos 9 ∷ []) (unmade 12) (pos 7 ∷ pos 8 ∷ pos 9 ∷ [])
+
+-- Nor is what is below -128.
+abbrev pub grey-refuses-below-minus-128 : Row
+grey-refuses-below-minus-128 = makes (grey nextBelowMinus128) (pos 7 ∷ pos 8 ∷ pos 9 ∷ []) (unmade 12) (pos 7 ∷ pos 8 ∷ pos 9 ∷ [])
+
+-- What is not finite.
+abbrev pub grey-refuses-infinite : Row
+grey-refuses-infinite = makes (grey infinite) (pos 7 ∷ pos 8 ∷ pos 9 ∷ []) (unmade 12) (pos 7 ∷ pos 8 ∷ pos 9 ∷ [])
+
+abbrev pub grey-refuses-minus-infinite : Row
+grey-refuses-minus-infinite = makes (grey minusInfinite) (pos 7 ∷ pos 8 ∷ pos 9 ∷ []) (unmade 12) (pos 7 ∷ pos 8 ∷ pos 9 ∷ [])
+
+abbrev pub grey-refuses-no-number : Row
+grey-refuses-no-number = makes (grey notANumber) (pos 7 ∷ pos 8 ∷ pos 9 ∷ []) (unmade 12) (pos 7 ∷ pos 8 ∷ pos 9 ∷ [])
+
+-- One value that is bad, the first, the second or the last: all three places stay.
+abbrev pub colour-refuses-first : Row
+colour-refuses-first = makes (colour notANumber floatOne half) (pos 7 ∷ pos 8 ∷ pos 9 ∷ []) (unmade 12) (pos 7 ∷ pos 8 ∷ pos 9 ∷ [])
+
+abbrev pub colour-refuses-second : Row
+colour-refuses-second = makes (colour floatOne infinite half) (pos 7 ∷ pos 8 ∷ pos 9 ∷ []) (unmade 12) (pos 7 ∷ pos 8 ∷ pos 9 ∷ [])
+
+abbrev pub colour-refuses-last : Row
+colour-refuses-last = makes (colour floatOne half float128) (pos 7 ∷ pos 8 ∷ pos 9 ∷ []) (unmade 12) (pos 7 ∷ pos 8 ∷ pos 9 ∷ [])
+
+-- Nothing measured: no point, and the places stay.
+abbrev pub nothing-makes-none : Row
+nothing-makes-none = makes nothing (pos 7 ∷ pos 8 ∷ pos 9 ∷ []) madeNone (pos 7 ∷ pos 8 ∷ pos 9 ∷ [])
+
+-- Two places, and a value out of range: 3 comes first.
+abbrev pub colour-refuses-length : Row
+colour-refuses-length = makes (colour floatOne half float128) (pos 7 ∷ pos 8 ∷ []) (unmade 3) (pos 7 ∷ pos 8 ∷ [])
+
+-- Four places, and no number.
+abbrev pub grey-refuses-length : Row
+grey-refuses-length = makes (grey notANumber) (pos 7 ∷ pos 8 ∷ pos 9 ∷ pos 10 ∷ []) (unmade 3) (pos 7 ∷ pos 8 ∷ pos 9 ∷ pos 10 ∷ [])
+
+-- 3 for nothing measured too.
+abbrev pub nothing-refuses-length : Row
+nothing-refuses-length = makes nothing [] (unmade 3) []
+
 -- ---- the statement
 
 -- The table.
@@ -1061,11 +1216,31 @@ table =
     ∷ margin-zero-closed-and-open
     ∷ margin-least-of-all
     ∷ margin-greatest-of-all
+    ∷ colour-makes-a-point
+    ∷ grey-makes-a-point
+    ∷ colour-between-two-numbers
+    ∷ grey-minus-zero
+    ∷ grey-last-below-zero
+    ∷ grey-last-below-128
+    ∷ grey-minus-128
+    ∷ colour-of-extremes
+    ∷ grey-refuses-128
+    ∷ grey-refuses-below-minus-128
+    ∷ grey-refuses-infinite
+    ∷ grey-refuses-minus-infinite
+    ∷ grey-refuses-no-number
+    ∷ colour-refuses-first
+    ∷ colour-refuses-second
+    ∷ colour-refuses-last
+    ∷ nothing-makes-none
+    ∷ colour-refuses-length
+    ∷ grey-refuses-length
+    ∷ nothing-refuses-length
     ∷ []
 
 -- Every row holds of the calls as they are defined.
 pub examples-hold : All table
-unfolding lesser greater sumTo totalTo count every keep allTo anyTo rising before treeRun eachOnce isTree leastFrom greatestFrom rootBox boxes aboveAt inside isSettled isOpen openSlots visits digitsWithin digits S isSquare firstOf buildAnswer checkAnswer listCode listAnswer listAfter insideSlots upToFirst screenVisits leastTo lowestLeast screenCode screenAnswer placeCode placeAnswer
+unfolding lesser greater sumTo totalTo count every keep allTo anyTo rising before treeRun eachOnce isTree leastFrom greatestFrom rootBox boxes aboveAt inside isSettled isOpen openSlots visits digitsWithin digits S isSquare firstOf buildAnswer checkAnswer listCode listAnswer listAfter insideSlots upToFirst screenVisits leastTo lowestLeast screenCode screenAnswer placeCode placeAnswer ofBits inRange coordinateOf gives pointCode pointAnswer pointAfter
 examples-hold =
     example-1-build by built refl refl refl refl
     also example-1-check by refl
@@ -1192,4 +1367,24 @@ examples-hold =
     also margin-zero-closed-and-open by refl
     also margin-least-of-all by refl
     also margin-greatest-of-all by refl
+    also colour-makes-a-point by (refl, refl)
+    also grey-makes-a-point by (refl, refl)
+    also colour-between-two-numbers by (refl, refl)
+    also grey-minus-zero by (refl, refl)
+    also grey-last-below-zero by (refl, refl)
+    also grey-last-below-128 by (refl, refl)
+    also grey-minus-128 by (refl, refl)
+    also colour-of-extremes by (refl, refl)
+    also grey-refuses-128 by (refl, refl)
+    also grey-refuses-below-minus-128 by (refl, refl)
+    also grey-refuses-infinite by (refl, refl)
+    also grey-refuses-minus-infinite by (refl, refl)
+    also grey-refuses-no-number by (refl, refl)
+    also colour-refuses-first by (refl, refl)
+    also colour-refuses-second by (refl, refl)
+    also colour-refuses-last by (refl, refl)
+    also nothing-makes-none by (refl, refl)
+    also colour-refuses-length by (refl, refl)
+    also grey-refuses-length by (refl, refl)
+    also nothing-refuses-length by (refl, refl)
     also nothing-left

@@ -11,12 +11,15 @@ pub mod Lists
 pub mod Screen
 pub mod Margin
 pub mod Bound
+pub mod Value
+pub mod Reading
 pub mod Refusals
 pub mod BuildCall
 pub mod CheckCall
 pub mod ListCall
 pub mod ScreenCall
 pub mod PlaceCall
+pub mod PointCall
 pub mod Examples
 pub mod Unmarked
 pub mod Mirror

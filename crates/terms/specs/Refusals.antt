@@ -6,11 +6,13 @@ use Prim.Native.Nat.{ℕ, zero, suc, _*_}
 use lib.ListN.{length}
 use lib.IntN.{ℤ}
 use lib.Dec.{leb, ltb, eqb}
+use Rattle.terms.specs.declared.Reading.{Reading}
 use Rattle.terms.specs.Tests.{every}
 use Rattle.terms.specs.Lent.{Stock, Order, Faces}
 use Rattle.terms.specs.Points.{isCoordinate}
 use Rattle.terms.specs.Region.{isComponent, isOffset, isMark}
 use Rattle.terms.specs.Tree.{isShelf}
+use Rattle.terms.specs.Reading.{allInRange}
 
 -- A number with the test for which it is given.
 pub record Refusal : Type 0 where
@@ -67,6 +69,10 @@ markRefusals h marks = record { number = 11; holds = notLong h marks } ∷ recor
 -- 9: the first n slots are not the tree of these points.
 abbrev pub treeRefusals : Stock → Order → List Refusal
 treeRefusals s o = record { number = 9; holds = not (isShelf s o) } ∷ []
+
+-- 12: a value of the reading is not finite, or out of range.
+abbrev pub valueRefusals : Reading → List Refusal
+valueRefusals r = record { number = 12; holds = not (allInRange r) } ∷ []
 
 -- The stock's shape: 1, 2 and 3.
 abbrev pub stockRefusals : Stock → List Refusal

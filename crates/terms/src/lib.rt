@@ -1,10 +1,45 @@
-// The values that the calls share: the box as one value, and the answers.
+// The values that the calls share: the box as one value, a reading and what it gives, and the answers.
 pub mod axis;
 
 // A box: its least and its greatest coordinate in each dimension. Places from k on mean nothing.
 pub struct CornerRows {
     pub low: [i32; 4],
     pub high: [i32; 4],
+}
+
+// A colour: its three floats.
+pub struct Colour {
+    pub first: f32,
+    pub second: f32,
+    pub third: f32,
+}
+
+// A reading: a colour, a grey of one value, or nothing measured.
+pub enum Reading {
+    Colour(Colour),
+    Grey(f32),
+    Nothing,
+}
+
+// The three numbers of a point that a reading becomes.
+pub struct Triple {
+    pub first: i32,
+    pub second: i32,
+    pub third: i32,
+}
+
+// What a reading gives: a point, no point where nothing was measured, or a value that is not finite or out of range.
+pub enum Given {
+    Point(Triple),
+    NoPoint,
+    OutOfRange,
+}
+
+// What a call that makes a point answers: made is 1, or 0 where nothing was measured. A refusal has its number and 0.
+#[repr(C)]
+pub struct Making {
+    pub code: u32,
+    pub made: u32,
 }
 
 // What the list call answers. A refusal has its number and zeros.

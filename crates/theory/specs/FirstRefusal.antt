@@ -103,3 +103,8 @@ if-refused (suc c) x y r = refl
 pub if-code : {A : Type 0} (code : A → ℕ) (c : ℕ) (done refused : A) → code done ≡ 0 → code refused ≡ c → code (ifDone c done refused) ≡ c
 if-code code zero done refused d r = d
 if-code code (suc c) done refused d r = r
+
+-- What both values have in common, the one has that is given.
+pub if-either : {A B : Type 0} (f : A → B) (c : ℕ) (done refused : A) {b : B} → f done ≡ b → f refused ≡ b → f (ifDone c done refused) ≡ b
+if-either f zero done refused d r = d
+if-either f (suc c) done refused d r = r

@@ -45,3 +45,7 @@ pub mod TreeDepth
 pub mod RunTests
 pub mod Answers
 pub mod RootBoxOfSame
+pub mod Floors
+pub mod Values
+pub mod NeverRefused
+pub mod PointCall

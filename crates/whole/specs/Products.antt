@@ -1,9 +1,9 @@
 -- Products of whole numbers, and how the order goes with them.
 use mathlib.Core.Path.{_≡_, ap, _∙_}
-use Prim.Native.Nat.{ℕ, zero, suc, _*_}
-use native.Mathlib.Nat.{mul-le-mul-left}
+use Prim.Native.Nat.{ℕ, zero, suc, _+_, _*_, _≤_, _<_}
+use native.Mathlib.Nat.{mul-le-mul-left, add-mul, le-of-mul-le-mul-right, lt-of-mul-lt-mul-right}
 use lib.IntN.{ℤ, pos, negsuc, negℤ, _+ℤ_, _-ℤ_, _*ℤ_}
-use lib.Signed.{_≤ℤ_}
+use lib.Signed.{_≤ℤ_, _<ℤ_}
 use Rattle.whole.specs.Parts.{ints, up, dn, to≤, sum-parts, dif-parts, mul-parts, neg-up, neg-dn}
 
 pub mul-comm : (a b : ℤ) → a *ℤ b ≡ b *ℤ a
@@ -91,3 +91,16 @@ mul-nonneg {a} {b} h k = omega (ints, mul-mono a h k, mul-zero a)
 pub square-nonneg : (z : ℤ) → pos 0 ≤ℤ (z *ℤ z)
 square-nonneg (pos n) = omega (ints, mul-parts (pos n) (pos n))
 square-nonneg (negsuc n) = omega (ints, mul-parts (negsuc n) (negsuc n))
+
+-- a positive factor that both sides have can go
+pub mul-cancel : (a b : ℤ) (c : ℕ) → 0 < c → (a *ℤ pos c) ≤ℤ (b *ℤ pos c) → a ≤ℤ b
+mul-cancel a b c p h =
+    let l : (up a + dn b) * c ≤ (up b + dn a) * c = omega (ints, mul-parts a (pos c), mul-parts b (pos c), add-mul (up a) (dn b) c, add-mul (up b) (dn a) c) in
+    let k : up a + dn b ≤ up b + dn a = le-of-mul-le-mul-right l p in
+    omega ints
+
+pub mul-cancel-lt : (a b : ℤ) (c : ℕ) → (a *ℤ pos c) <ℤ (b *ℤ pos c) → a <ℤ b
+mul-cancel-lt a b c h =
+    let l : (up a + dn b) * c < (up b + dn a) * c = omega (ints, mul-parts a (pos c), mul-parts b (pos c), add-mul (up a) (dn b) c, add-mul (up b) (dn a) c) in
+    let k : up a + dn b < up b + dn a = lt-of-mul-lt-mul-right c l in
+    omega ints

@@ -1,0 +1,5 @@
+pub mod Exact
+pub mod Bits
+pub mod Scaled
+pub mod InRange
+pub mod Converted

@@ -1,0 +1,63 @@
+-- Points that are coordinates throughout are never refused by 5: of a call's tests with that number none holds, so it is not the first's.
+use mathlib.Core.Path.{_≡_, refl, _∙_}
+use mathlib.Core.Logic.{_≢_}
+use mathlib.Core.Bool.{Bool, true, _&&_, not}
+use mathlib.Core.List.{List, [], _∷_}
+use Prim.Native.Nat.{ℕ, zero, suc, _<_}
+use native.Mathlib.Omega.{arith}
+use lib.ListN.{getD}
+use lib.IntN.{ℤ}
+use lib.Dec.{eqb}
+use borrow.Author.Tests.{eq-eqb}
+use Rattle.terms.specs.Tests.{every}
+use Rattle.terms.specs.Lent.{Stock, Order, Faces}
+use Rattle.terms.specs.Points.{isCoordinate}
+use Rattle.terms.specs.Refusals.{Refusal}
+use Rattle.terms.specs.BuildCall.{buildRefusals}
+use Rattle.terms.specs.CheckCall.{checkRefusals}
+use Rattle.terms.specs.ListCall.{listRefusals}
+use Rattle.terms.specs.ScreenCall.{screenRefusals}
+use Rattle.terms.specs.PlaceCall.{placeRefusals}
+use Rattle.theory.specs.Flags.{clash, and-true, true-and, not-true}
+use Rattle.theory.specs.FirstRefusal.{none, FirstHeld}
+
+-- No test with the number c holds.
+unfoldable pub neverHolds : ℕ → List Refusal → Bool
+neverHolds c [] = true
+neverHolds c (r ∷ rs) = not (eqb (r .number) c && r .holds) && neverHolds c rs
+
+never-at : (c : ℕ) (rs : List Refusal) → neverHolds c rs ≡ true → (i : ℕ) → getD rs i none .holds ≡ true → getD rs i none .number ≢ c
+unfolding neverHolds
+never-at c [] e i h = clash h refl
+never-at c (r ∷ rs) e zero h = λ z.
+    clash
+    (true-and (eq-eqb (r .number) c z) h)
+    (not-true (eqb (r .number) c && r .holds) (and-true (not (eqb (r .number) c && r .holds)) e .0))
+never-at c (r ∷ rs) e (suc i) h = never-at c rs (and-true (not (eqb (r .number) c && r .holds)) e .1) i h
+
+-- So an answer that is the first is not that number.
+pub never-answered : {c : ℕ} → 0 < c → {rs : List Refusal} {answer : ℕ} → neverHolds c rs ≡ true → FirstHeld rs answer → answer ≢ c
+never-answered {c} l {rs} e w = λ z.
+    let p = w .found (λ n. omega arith) in
+    never-at c rs e (p .0) (p .1) (p .2 ∙ z)
+
+module _ (s : Stock) (o : Order) (fit : every isCoordinate (s .points) ≡ true) where
+  pub build-never-five : neverHolds 5 (buildRefusals s o) ≡ true
+  unfolding neverHolds
+  build-never-five = rw fit
+
+  pub check-never-five : neverHolds 5 (checkRefusals s o) ≡ true
+  unfolding neverHolds
+  check-never-five = rw fit
+
+  pub list-never-five : (f : Faces) (list : List ℕ) → neverHolds 5 (listRefusals s o f list) ≡ true
+  unfolding neverHolds
+  list-never-five f list = rw fit
+
+  pub screen-never-five : (f : Faces) → neverHolds 5 (screenRefusals s o f) ≡ true
+  unfolding neverHolds
+  screen-never-five f = rw fit
+
+pub place-never-five : (k : ℕ) (point : List ℤ) (f : Faces) → every isCoordinate point ≡ true → neverHolds 5 (placeRefusals k point f) ≡ true
+unfolding neverHolds
+place-never-five k point f fit = rw fit
