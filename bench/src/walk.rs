@@ -153,8 +153,8 @@ impl Walk<'_> {
         let mut left = 0;
         for &face in live {
             let f = usize::from(face);
-            if !self.is_above(f, &self.corner(f, &rows.low, &rows.high)) {
-                if !self.is_above(f, &self.corner(f, &rows.high, &rows.low)) {
+            if !self.corner_is_above(f, &rows.low, &rows.high) {
+                if !self.corner_is_above(f, &rows.high, &rows.low) {
                     return Judgement::Below;
                 }
                 next[left] = face;
@@ -173,20 +173,21 @@ impl Walk<'_> {
         &self.region.normals[face * k..(face + 1) * k]
     }
 
-    /// The corner that takes the first row where the component is 0 or more, else the second. Four turns for every k, as the library has
-    /// them, let the compiler write the loop out.
-    fn corner(&self, face: usize, first: &[i32; 4], second: &[i32; 4]) -> [i32; 4] {
+    /// Whether the corner that takes the first row where the component is 0 or more, else the second, is above the face; its sum is added up from
+    /// the rows. Four turns for every k, as the library has them, let the compiler write the loop out.
+    fn corner_is_above(&self, face: usize, first: &[i32; 4], second: &[i32; 4]) -> bool {
         let normal = self.normal(face);
-        let mut corner = [0; 4];
+        let mut sum = 0;
         for d in 0..4 {
             if let Some(&component) = normal.get(d) {
-                corner[d] = if component >= 0 { first[d] } else { second[d] };
+                let coordinate = if component >= 0 { first[d] } else { second[d] };
+                sum += i64::from(component) * i64::from(coordinate);
             }
         }
-        corner
+        sum >= self.region.least[face]
     }
 
-    /// Whether a point or a corner is above the face.
+    /// Whether a point is above the face.
     fn is_above(&self, face: usize, x: &[i32; 4]) -> bool {
         let normal = self.normal(face);
         let mut sum = 0;

@@ -2,7 +2,6 @@
 use crate::faces::above;
 use crate::faces::margin;
 use crate::faces::row_at;
-use crate::faces::sum;
 use terms::CornerRows;
 ghost use mathlib.Core.Path.{_≡_};
 ghost use Prim.Native.Nat.{_<_};
@@ -13,7 +12,6 @@ ghost use Rattle.terms.specs.Points.{lone};
 ghost use Rattle.terms.specs.Box.{boxOf, leftBox, rightBox};
 ghost use Rattle.terms.specs.Region.{bySign, whollyAbove, whollyBelow};
 ghost use Rattle.theory.specs.Tested.{Coordinates};
-ghost use Rattle.theory.specs.PointsAlike.{SamePoint};
 ghost use Rattle.region.specs.Corners.{corner};
 ghost use Rattle.region.specs.Table.{products, tabled};
 ghost use Rattle.region.specs.Ranges.{BoxRanges, Normal, HasRow};
@@ -25,25 +23,20 @@ fn by_sign(component: i32, first: i32, second: i32) -> i32
     if component >= 0 { first } else { second }
 }
 
-// The corner of a box that a face's signs choose: in each dimension the first row where the component is 0 or more, else the second.
-fn corner_of(first: [i32; 4], second: [i32; 4], row: [i32; 4]) -> [i32; 4]
-    ensures { λ r. ⌜ SamePoint 4 (lone r) (corner (lone first) (lone second) (lone row)) ⌝ }
-{
-    let mut chosen: [i32; 4] = [0; 4];
-    for d in 0..4 {
-        chosen[d] = by_sign(row[d], first[d], second[d]);
-    }
-    chosen
-}
-
-// The sum of products at that corner. With the rows low and high it is the corner furthest against the normal, with high and low the opposite one.
+// The sum of products at the corner of a box that a face's signs choose, added up from the box's rows: in each dimension the first row where the
+// component is 0 or more, else the second. With the rows low and high it is the corner furthest against the normal, with high and low the opposite one.
 pub fn corner_sum(k: usize, first: [i32; 4], second: [i32; 4], row: [i32; 4]) -> i64
     requires { ⌜ Coordinates k (lone first) ⌝ }
     requires { ⌜ Coordinates k (lone second) ⌝ }
     requires { ⌜ Normal k (lone row) ⌝ }
     ensures { λ r. ⌜ r ≡ sumTo k (products (lone row) (corner (lone first) (lone second) (lone row))) ⌝ }
 {
-    sum(k, corner_of(first, second, row), row)
+    let mut total: i64 = 0;
+    for d in 0..4 {
+        let component = row[d];
+        total += component as i64 * by_sign(component, first[d], second[d]) as i64;
+    }
+    total
 }
 
 // Whether a box is wholly above face i: its corner furthest against the normal is above.
