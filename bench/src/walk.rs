@@ -1,4 +1,4 @@
-//! The walk by hand, with no proof: live faces, and the corner of a box filled by the signs of a face.
+//! The walk by hand, with no proof: live faces, and the sum at the corner of a box that the signs of a face choose.
 
 use crate::library::Listing;
 use crate::region::Region;

@@ -322,7 +322,7 @@ pub fn place(
 }
 
 /// Writes the point of a colour into the three places: of each value the greatest whole number not above 256
-/// times it. Refusals: 3, then 12.
+/// times it, in the float environment that a thread starts with. Refusals: 3, then 12.
 pub fn point_from_colour(first: f32, second: f32, third: f32, place: &mut [i32]) -> Making {
     // SAFETY: as said above.
     unsafe { hornherder_point_from_colour(first, second, third, place.as_mut_ptr(), place.len()) }

@@ -30,8 +30,9 @@ pub enum Reading {
 }
 
 impl Reading {
-    /// The point of the reading: of each value the greatest whole number not above 256 times it, exactly. A
-    /// grey gives its number, then 0, 0. None where nothing was measured.
+    /// The point of the reading: of each value the greatest whole number not above 256 times it, exactly, in
+    /// the float environment that a thread starts with (one that flushes subnormals to zero may make 0 of a
+    /// negative value next to 0). A grey gives its number, then 0, 0. None where nothing was measured.
     ///
     /// ```
     /// use hornherder::{Reading, Refusal};

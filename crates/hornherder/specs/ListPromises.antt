@@ -46,7 +46,7 @@ module _ (s : Stock) (o : Order) (f : Faces) (list : List ℕ) where
         let n : listCode s o f list ≢ 0 = λ z. m (code ∙ z) in
         e .answered ∙ if-refused (listCode s o f list) _ _ n ∙ rw (← code) refl
 
-    -- "With all marks 0 every answer stays."
+    -- With all marks 0 every answer stays as it was before faces had marks.
     pub list-of-closed-faces : f .marks ≡ replicate (f .h) 0 → (a ≡ unmarkedListAnswer s o f list) × (x ≡ unmarkedListAfter s o f list)
     list-of-closed-faces zeros = (e .answered ∙ closed-list-answer f zeros s o list, e .written ∙ closed-list-after f zeros s o list)
 
@@ -76,7 +76,7 @@ module _ (s : Stock) (o : Order) (f : Faces) (list : List ℕ) where
         : a .visits ≤ totalTo (f .h) (λ i. listAnswer s o (faceAlone (s .k) f i) list .visits)
     visits-at-most-the-faces = rw (e .answered) (list-visits-le-faces s o f list)
 
-    -- "Where all faces are square, visits are at most h times S(n, k)."
+    -- "Where all faces are square, visits are at most h times S(n, k)", whatever the marks: "the bound on square faces must be shown to hold still".
     pub visits-at-most-hS : ((i : ℕ) → i < f .h → isSquare (region (s .k) f) i ≡ true) → a .visits ≤ f .h * S (slotsOf s) (s .k)
     visits-at-most-hS squares = rw (e .answered) (list-visits-le-S s o f list squares)
 

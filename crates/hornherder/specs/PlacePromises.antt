@@ -8,6 +8,7 @@ use native.Mathlib.Omega.{arith}
 use lib.ListN.{replicate}
 use lib.Dec.{ltb}
 use lib.IntN.{ℤ, pos, negsuc}
+use lib.Signed.{leZ}
 use borrow.Author.Tests.{ltb-true, ltb-false}
 use Rattle.whole.specs.Parts.{ints}
 use Rattle.terms.specs.declared.Placing.{Placing}
@@ -22,7 +23,7 @@ use Rattle.theory.specs.ClosedFaces.{closed-place-answer}
 use Rattle.theory.specs.FirstRefusal.{FirstHeld, if-code, if-refused}
 use Rattle.theory.specs.FirstRefusalIsLowest.{Lowest}
 use Rattle.theory.specs.Tested.{Between, Coordinates, coordinate-place}
-use Rattle.theory.specs.Margins.{aboveBy, inside-by-margins, margin-between, LeastAt, least-words-of}
+use Rattle.theory.specs.Margins.{aboveBy, inside-by-margins, closed-inside-by-least, margin-between, LeastAt, least-words-of}
 use Rattle.theory.specs.PlaceCall.{PlacePassed, place-first, place-lowest, place-passed}
 use Rattle.descent.specs.Points.{lone-coord}
 
@@ -50,7 +51,7 @@ module _ (k : ℕ) (point : List ℤ) (f : Faces) {a : Placing} (e : a ≡ place
       let n : placeCode k point f ≢ 0 = λ z. m (place-number ∙ z) in
       e ∙ if-refused (placeCode k point f) _ _ n ∙ rw (← place-number) refl
 
-  -- "With all marks 0 every answer stays."
+  -- With all marks 0 every answer stays as it was before faces had marks.
   pub place-of-closed-faces : f .marks ≡ replicate (f .h) 0 → a ≡ unmarkedPlaceAnswer k point f
   place-of-closed-faces zeros = e ∙ closed-place-answer f zeros k point
 
@@ -62,6 +63,11 @@ module _ (k : ℕ) (point : List ℤ) (f : Faces) {a : Placing} (e : a ≡ place
     pub place-inside-by-margins : a .inside ≡ bit (allTo (f .h) (λ i. aboveBy (region k f) i (margin (region k f) i (lone point))))
     unfolding placeAnswer
     place-inside-by-margins = rw (e, passed) (ap bit (inside-by-margins (region k f) (lone point)))
+
+    -- For closed faces only: inside exactly if the least margin is 0 or more.
+    pub place-inside-by-least : ((i : ℕ) → i < f .h → region k f .markedOpen i ≡ false) → a .inside ≡ bit (leZ (pos 0) (a .margin))
+    unfolding placeAnswer
+    place-inside-by-least closed = rw (e, passed) (ap bit (closed-inside-by-least (region k f) (lone point) closed))
 
     -- "The least distance number over its faces with the lowest-numbered face that has it":
     pub place-names-the-least-margin : 0 < f .h → LeastAt (f .h) (λ i. margin (region k f) i (lone point)) (a .face) (a .margin)

@@ -85,7 +85,7 @@ module _ (s : Stock) (o : Order) (f : Faces) {b : Screening} (e : b ≡ screenAn
       let n : screenCode s o f ≢ 0 = λ z. m (screen-number ∙ z) in
       e ∙ if-refused (screenCode s o f) _ _ n ∙ rw (← screen-number) refl
 
-  -- "With all marks 0 every answer stays."
+  -- With all marks 0 every answer stays as it was before faces had marks.
   pub screen-of-closed-faces : f .marks ≡ replicate (f .h) 0 → b ≡ unmarkedScreenAnswer s o f
   screen-of-closed-faces zeros = e ∙ closed-screen-answer f zeros s o
 

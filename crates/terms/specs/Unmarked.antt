@@ -1,5 +1,5 @@
--- The calls as they were before faces had marks: above means at least the offset, whatever the face. Said again only for the law that with all
--- marks 0 every answer stays.
+-- The calls as they would be if faces had no marks: above means at least the offset, whatever the face. Said only for the law that with all marks 0
+-- every answer stays as it was before there were any.
 use mathlib.Core.Bool.{Bool, _||_, not}
 use mathlib.Core.List.{List, _++_, map, reverse}
 use Prim.Native.Nat.{ℕ}

@@ -117,7 +117,7 @@ module _ (f : Faces) (zeros : f .marks ≡ replicate (f .h) 0) where
     open-slots-stay : openSlots (region (s .k) f) (pointOf s) (shelfRun s o) ≡ unmarkedOpenSlots (region (s .k) f) (pointOf s) (shelfRun s o)
     open-slots-stay = closed-open-slots (region (s .k) f) marks-closed (pointOf s) (shelfRun s o)
 
-    -- "With all marks 0 every answer stays": what the list call answers, refusals included,
+    -- With all marks 0 every answer stays as it was before faces had marks: what the list call answers, refusals included,
     pub closed-list-answer : (list : List ℕ) → listAnswer s o f list ≡ unmarkedListAnswer s o f list
     unfolding listAnswer visits
     closed-list-answer list = rw (list-code-stays s o list, insides-stay, outsides-stay, open-slots-stay)

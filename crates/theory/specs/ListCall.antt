@@ -80,7 +80,7 @@ module _ (s : Stock) (o : Order) (f : Faces) (list : List ℕ) where
       (passed-join L (C ++ F ++ T) (w .list-room)
       (passed-join C (F ++ T) (w .coordinates) (passed-join F T (w .faces) (w .tree))))))
 
-  -- "List: 1 to 9."
+  -- "List: 1 to 9", and 11 "tested after 8".
   pub list-passed : listCode s o f list ≡ 0 → ListPassed s o f list
   list-passed e =
       let w = list-groups e in

@@ -29,7 +29,7 @@ module _ (k : ℕ) (point : List ℤ) (f : Faces) where
   unfolding risesFrom placeCode
   place-lowest = first-lowest 1 (placeRefusals k point f) (omega arith) refl
 
--- "One-point test: 1, 3, 5 to 8."
+-- "One-point test: 1, 3, 5 to 8", and 11 "tested after 8".
 pub place-passed : (k : ℕ) (point : List ℤ) (f : Faces) → placeCode k point f ≡ 0 → PlacePassed k point f
 place-passed k point f e =
     let D : List Refusal = dimensionRefusals k in

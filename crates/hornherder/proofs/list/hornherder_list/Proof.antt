@@ -12,7 +12,7 @@ use Rattle.hornherder.specs.ListOutcome.{AtMost, counts-at-most, list-te
 use Rattle.hornherder.proofs.list.hornherder_list.Statement.{statement}
 use Rattle.hornherder.proofs.list.hornherder_list.Tie as tie
 
--- What 1 to 9 have tested.
+-- What 1 to 8, 11 and 9 have tested.
 passed : (c : tie.Else1) → let a = c .before .before .before .before .before .before .args in
     ListPassed (stock (a .k) (a .n) (a .points .now)) (orderOf (a .order .now)) (faces (a .h) (a .normals .now) (a .offsets .now) (a .marks .now)) (a .list .now)
 passed c = list-tested _ _ _ _ (c .before .list-refusal .ensures) (c .if1 .left)

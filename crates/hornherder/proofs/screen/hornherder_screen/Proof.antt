@@ -15,7 +15,7 @@ use Rattle.hornherder.specs.ScreenOutcome.{screen-visits-most, screen-te
 use Rattle.hornherder.proofs.screen.hornherder_screen.Statement.{statement}
 use Rattle.hornherder.proofs.screen.hornherder_screen.Tie as tie
 
--- What 1 to 9 have tested.
+-- What 1 to 8, 11 and 9 have tested.
 passed : (c : tie.Else1) → let a = c .before .before .before .before .args in
     ScreenPassed (stock (a .k) (a .n) (a .points .now)) (orderOf (a .order .now)) (faces (a .h) (a .normals .now) (a .offsets .now) (a .marks .now))
 passed c = screen-tested _ _ _ (c .before .screen-refusal .ensures) (c .if1 .left)
