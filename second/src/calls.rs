@@ -1,10 +1,11 @@
-//! The eight calls, and functions that look at the visits behind a list.
+//! The nine calls, and functions that look at the visits behind a list.
 
 use crate::found::{found_number, visits_of_screen};
 use crate::lists::{inside_and_outside, places};
 use crate::margin::{face_of_margin, margin};
 use crate::order::built_order;
 use crate::reading::{point_of_reading, Colour, Reading};
+use crate::reason::{margin_to_face, why};
 use crate::refusals;
 use crate::region::{faces, inside};
 use crate::shelf::Shelf;
@@ -46,6 +47,18 @@ pub struct Placing {
 pub struct Making {
     pub code: u32,
     pub made: u32,
+}
+
+/// The answer of explain: reason 1 inside with a whole branch, 2 inside by its own
+/// test, 3 outside with a whole branch, 4 outside by its own test. Face and margin
+/// are 0 for inside; on a refusal all but the code is 0.
+#[derive(Clone, Copy, Debug, Default, PartialEq, Eq)]
+pub struct Explaining {
+    pub code: u32,
+    pub reason: u8,
+    pub face: u8,
+    pub slot: u16,
+    pub margin: i64,
 }
 
 /// Writes the order of the points into the first `n` places of `order`.
@@ -151,6 +164,40 @@ pub fn place(
         measured: u32::from(!faces.is_empty()),
         face: face_of_margin(&faces, point).unwrap_or(0) as u16,
         margin: margin(&faces, point).unwrap_or(0) as i64,
+    }
+}
+
+/// Says why the point of this number is inside or outside: the reason, its slot
+/// and, for outside, the face and the point's distance number from it.
+#[allow(clippy::too_many_arguments)]
+pub fn explain(
+    k: usize,
+    n: usize,
+    h: usize,
+    number: u32,
+    points: &[i32],
+    order: &[u32],
+    normals: &[i32],
+    offsets: &[i64],
+    marks: &[u8],
+) -> Explaining {
+    let code = refusals::of_explain(k, n, h, number, points, order, normals, offsets, marks);
+    if code != 0 {
+        return Explaining {
+            code,
+            ..Explaining::default()
+        };
+    }
+    let slots = &order[..n];
+    let shelf = Shelf { k, points, slots };
+    let faces = faces(k, h, normals, offsets, marks);
+    let why = why(&shelf, &faces, number).expect("a tree's slots hold every number below n");
+    Explaining {
+        code: 0,
+        reason: why.reason,
+        face: why.face.unwrap_or(0) as u8,
+        slot: why.slot as u16,
+        margin: margin_to_face(&shelf, &faces, number, &why).unwrap_or(0) as i64,
     }
 }
 

@@ -9,6 +9,7 @@ pub mod lists;
 pub mod margin;
 pub mod order;
 pub mod reading;
+pub mod reason;
 pub mod refusals;
 pub mod region;
 pub mod shelf;
@@ -17,7 +18,8 @@ pub mod visits;
 
 pub use bound::{binary_digits, is_square, s};
 pub use calls::{
-    build, check, list, open_slots, place, point_from_colour, point_from_grey, point_from_nothing,
-    screen, visits_of_face, visits_of_region, Listing, Making, Placing, Screening,
+    build, check, explain, list, open_slots, place, point_from_colour, point_from_grey,
+    point_from_nothing, screen, visits_of_face, visits_of_region, Explaining, Listing, Making,
+    Placing, Screening,
 };
 pub use text::shelf_text;

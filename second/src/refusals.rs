@@ -70,6 +70,11 @@ pub fn value_wrong(reading: Reading) -> bool {
     values(reading).into_iter().any(wrong)
 }
 
+/// Number 13: the number asked about is n or more.
+pub fn number_wrong(n: usize, number: u32) -> bool {
+    number as usize >= n
+}
+
 /// What build returns: tests 1 to 5.
 pub fn of_build(k: usize, n: usize, points: &[i32], order: &[u32]) -> u32 {
     first_held(&[
@@ -144,6 +149,34 @@ pub fn of_screen(
         (8, &|| face_wrong(normals, offsets)),
         (11, &|| marks_wrong(h, marks)),
         (9, &|| !is_tree(k, n, points, order)),
+    ])
+}
+
+/// What explain returns: the tests of list, without the list buffer, then 13.
+#[allow(clippy::too_many_arguments)]
+pub fn of_explain(
+    k: usize,
+    n: usize,
+    h: usize,
+    number: u32,
+    points: &[i32],
+    order: &[u32],
+    normals: &[i32],
+    offsets: &[i64],
+    marks: &[u8],
+) -> u32 {
+    first_held(&[
+        (1, &|| dimension_wrong(k)),
+        (2, &|| too_many_points(n)),
+        (3, &|| not_times_long(points.len(), k, n)),
+        (4, &|| shorter(order.len(), n)),
+        (5, &|| coordinate_wrong(points)),
+        (6, &|| too_many_faces(h)),
+        (7, &|| faces_not_long(k, h, normals, offsets)),
+        (8, &|| face_wrong(normals, offsets)),
+        (11, &|| marks_wrong(h, marks)),
+        (9, &|| !is_tree(k, n, points, order)),
+        (13, &|| number_wrong(n, number)),
     ])
 }
 
