@@ -4,7 +4,7 @@ use crate::region::Region;
 use crate::stock::Stock;
 use hornherder::raw;
 
-pub use hornherder::raw::{Listing, Making, Screening};
+pub use hornherder::raw::{Explaining, Listing, Making, Screening};
 
 /// Arranges the shelf.
 pub fn build(stock: &Stock, order: &mut [u32]) -> u32 {
@@ -28,6 +28,13 @@ pub fn list(stock: &Stock, order: &[u32], region: &Region, list: &mut [u32]) -> 
 pub fn screen(stock: &Stock, order: &[u32], region: &Region) -> Screening {
     let (normals, offsets, marks) = (&region.normals, &region.offsets, &region.marks);
     raw::screen(stock.k, stock.n, region.h, &stock.points, order, normals, offsets, marks)
+}
+
+/// Says why a number is inside or outside the region.
+#[rustfmt::skip]
+pub fn explain(stock: &Stock, order: &[u32], region: &Region, number: u32) -> Explaining {
+    let (normals, offsets, marks) = (&region.normals, &region.offsets, &region.marks);
+    raw::explain(stock.k, stock.n, region.h, number, &stock.points, order, normals, offsets, marks)
 }
 
 /// Makes a point of a colour.

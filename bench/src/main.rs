@@ -7,6 +7,7 @@ mod builds;
 mod clock;
 mod colours;
 mod cpp;
+mod explains;
 mod hard;
 mod json;
 mod library;

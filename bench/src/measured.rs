@@ -16,6 +16,7 @@ pub enum Call {
     Build,
     List,
     Screen,
+    Explain,
     Colours,
 }
 
@@ -30,17 +31,23 @@ pub struct Measured {
 }
 
 impl Measured {
+    /// Whether the workload is a list.
+    pub fn is_list(&self) -> bool {
+        matches!(self.call, Call::List)
+    }
+
     /// Whether the workload is a build.
     pub fn is_build(&self) -> bool {
         matches!(self.call, Call::Build)
     }
 
-    /// The time of the contender of this name. A walk is what its call takes beyond the check call.
+    /// The time of the contender of this name. A walk, or a way, is what its call takes beyond the check call.
     pub fn time(&self, name: &str) -> f64 {
         let beyond_check = |call: &str| (self.time(call) - self.time("check")).max(0.0);
         match name {
             "walk" => return beyond_check("list"),
             "screen's walk" => return beyond_check("screen"),
+            "explain's way" => return beyond_check("explain"),
             _ => {}
         }
         let found = self.times.iter().find(|(known, _)| *known == name);

@@ -2,6 +2,7 @@
 
 use crate::builds;
 use crate::colours;
+use crate::explains;
 use crate::hard::{AGAINST_PIVOTS, HARD};
 use crate::lists::{self, Shelf};
 use crate::measured::Measured;
@@ -26,7 +27,7 @@ impl Plan {
         }
     }
 
-    /// Every workload: the sizes, the screens, the colours, the dimensions, the other kinds, the hard ones.
+    /// Every workload: the sizes, the screens, the explain call, the colours, the dimensions, the other kinds, the hard ones.
     pub fn measure(&self) -> Vec<Measured> {
         let mut out = Vec::new();
         for n in self.sizes() {
@@ -35,6 +36,7 @@ impl Plan {
             out.extend(self.shelf(CLUSTERED, DIMENSION, n, regions));
         }
         out.extend(self.screens());
+        out.push(self.explains());
         out.push(colours::measure(self.seed, 2 * self.rounds));
         if self.quick {
             out.extend(self.shelf(AGAINST_PIVOTS, DIMENSION, FULL, no_region));
@@ -73,6 +75,16 @@ impl Plan {
         regions
             .map(|region| screens::measure(&shelf, &region, 2 * self.rounds))
             .collect()
+    }
+
+    /// The explain call, on the shelf that the targets speak of and the region that the plot draws. It has many numbers, so each has fewer rounds.
+    fn explains(&self) -> Measured {
+        eprintln!("measuring the explain call");
+        let stock = CLUSTERED.stock(DIMENSION, FULL, self.seed);
+        let order = builds::agreed_order(&stock);
+        let region = slanted(&stock, 8, 0.01, self.seed);
+        let rounds = (self.rounds / 4).max(1);
+        explains::measure(&stock, &order, &region, self.seed, rounds)
     }
 
     /// One shelf: its build, then each of its regions.

@@ -50,7 +50,8 @@ fn drawn(measured: &Measured, of_region: bool) -> bool {
         None => !of_region,
         Some(asked) => of_region && asked.h == 8 && asked.kind == "slanted" && asked.share == 0.01,
     };
-    region && measured.points == "clustered" && measured.k == DIMENSION
+    let call = measured.is_build() || measured.is_list();
+    region && call && measured.points == "clustered" && measured.k == DIMENSION
 }
 
 /// The ends of an axis, and where it lies.

@@ -49,6 +49,12 @@ fn sum(normal: &[i32], point: &[i32]) -> i64 {
     products.map(|(&a, &b)| i64::from(a) * i64::from(b)).sum()
 }
 
+/// The margin of a point to a face of a region.
+pub fn margin(region: &Region, face: usize, point: &[i32]) -> i64 {
+    let normal = &region.normals[face * point.len()..][..point.len()];
+    sum(normal, point) - region.offsets[face]
+}
+
 /// Whether a region holds a point.
 fn holds(region: &Region, point: &[i32]) -> bool {
     let mut faces = region.normals.chunks(point.len()).zip(&region.least);

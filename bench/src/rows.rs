@@ -57,6 +57,13 @@ const SCREEN_PAIRS: [(&str, &str); 5] = [
     ("screen", "CGAL, any point"),
 ];
 
+/// What is compared for a region whose numbers are explained.
+const EXPLAIN_PAIRS: [(&str, &str); 3] = [
+    ("explain's way", "root box by hand"),
+    ("explain's way", "walk"),
+    ("explain", "list"),
+];
+
 /// What is compared for colours that become points.
 const COLOUR_PAIRS: [(&str, &str); 1] = [("points from colours", "floor in Rust")];
 
@@ -66,6 +73,7 @@ pub fn rows(measured: &Measured) -> Vec<Row> {
         Call::Build => &BUILD_PAIRS,
         Call::List => &LIST_PAIRS,
         Call::Screen => &SCREEN_PAIRS,
+        Call::Explain => &EXPLAIN_PAIRS,
         Call::Colours => &COLOUR_PAIRS,
     };
     let row = |&(call, against): &(&'static str, &'static str)| Row {

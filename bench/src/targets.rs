@@ -1,6 +1,6 @@
 //! What is to be reached on a full shelf of clustered points in three dimensions.
 
-use crate::measured::Measured;
+use crate::measured::{Call, Measured};
 use crate::rows::Row;
 
 /// The dimension and the sizes that the targets speak of.
@@ -28,13 +28,14 @@ fn at_most(row: &Row) -> Option<f64> {
     }
 }
 
-/// Sets the targets of these rows, adds the two that join several workloads, and puts the rows with a target last.
+/// Sets the targets of these rows, adds those that join several workloads or have a fixed time to keep, and puts the rows with a target last.
 pub fn with_targets(mut rows: Vec<Row>, measured: &[Measured]) -> Vec<Row> {
     for row in &mut rows {
         row.at_most = at_most(row);
     }
     rows.extend(worst_build(measured));
     rows.extend(growth(measured));
+    rows.extend(measured.iter().filter_map(explains_way));
     rows.sort_by_key(|row| row.at_most.is_some());
     rows
 }
@@ -79,5 +80,20 @@ fn growth(measured: &[Measured]) -> Option<Row> {
         against: "n log n from 8,192".to_string(),
         other_micros: small.time("build") * work(FULL) / work(SMALLER),
         at_most: Some(1.3),
+    })
+}
+
+/// What the explain call takes beyond the check call, on the average over its numbers: at most 20 µs.
+fn explains_way(measured: &Measured) -> Option<Row> {
+    matches!(measured.call, Call::Explain).then(|| Row {
+        call: "explain's way",
+        points: measured.points,
+        k: measured.k,
+        n: measured.n,
+        asked: measured.asked,
+        micros: measured.time("explain's way"),
+        against: "20 µs".to_string(),
+        other_micros: 20.0,
+        at_most: Some(1.0),
     })
 }

@@ -5,6 +5,7 @@
  *   hornherder_check     says whether an order is that shelf
  *   hornherder_list      lists the points inside and outside a region, by way of the shelf
  *   hornherder_screen    says whether any point is inside a region, and which is the first
+ *   hornherder_explain   says why a point is inside a region or outside
  *   hornherder_place     tests one point against a region, and says by how much
  *   hornherder_point_from_colour, hornherder_point_from_grey and hornherder_point_from_nothing
  *                        make a point of what the renderer measured
@@ -63,7 +64,8 @@
  * Cost. A list call checks the order first, as hornherder_check does. On 65,535 points with 8 faces
  * that is about seven tenths of the call on x86-64 and four fifths on Arm; on small shelves less. A
  * check before a list call pays for it twice. A screen checks the order too, and does no more than a
- * list call: where one of the first slots is inside, it is little more than that check.
+ * list call: where one of the first slots is inside, it is little more than that check. An explain
+ * call goes one way down from the root, so it is little more than that check for every point.
  *
  * Machine. The library is compiled for x86-64 Linux or for Arm (aarch64) Linux, with the calling
  * convention that C compilers use there. Of the C library it needs at most memcpy, memmove and
@@ -86,7 +88,7 @@ extern "C" {
  * and the shared library has behind its name. It rises by one with each change of a name, a layout
  * or the meaning of a number.
  */
-#define HORNHERDER_VERSION 6
+#define HORNHERDER_VERSION 7
 
 /* k, how many coordinates a point has. */
 #define HORNHERDER_MIN_DIMENSION 1
@@ -118,6 +120,12 @@ extern "C" {
 #define HORNHERDER_CLOSED_FACE 0
 #define HORNHERDER_OPEN_FACE 1
 
+/* A reason: why a point is inside or outside, see hornherder_explain. */
+#define HORNHERDER_INSIDE_WITH_BRANCH 1
+#define HORNHERDER_INSIDE_BY_ITSELF 2
+#define HORNHERDER_OUTSIDE_WITH_BRANCH 3
+#define HORNHERDER_OUTSIDE_BY_ITSELF 4
+
 /* The stack that is enough for any call, in bytes. */
 #define HORNHERDER_STACK_BYTES 32768
 
@@ -134,6 +142,7 @@ extern "C" {
 #define HORNHERDER_NOT_THE_TREE 9u
 #define HORNHERDER_MARKS 11u
 #define HORNHERDER_VALUE_RANGE 12u
+#define HORNHERDER_NO_SUCH_NUMBER 13u
 
 /* When a call returns this number, and the likely cause. */
 static inline const char *hornherder_refusal_text(uint32_t number)
@@ -172,6 +181,9 @@ static inline const char *hornherder_refusal_text(uint32_t number)
     case HORNHERDER_VALUE_RANGE:
         return "a value is not finite, or not from -128 up to but not including 128; "
                "likely: a pixel that was never rendered, or values on a scale of 0 to 255";
+    case HORNHERDER_NO_SUCH_NUMBER:
+        return "the number is n or more; "
+               "likely: numbers counted from 1, or a number of another, larger shelf";
     default:
         return "no number of this version";
     }
@@ -192,6 +204,15 @@ typedef struct {
     uint32_t number; /* the first point inside, in shelf order; 0 where none is found */
     uint32_t visits; /* how many slots up to that one are open, see hornherder_screen */
 } hornherder_screening;
+
+/* What hornherder_explain answers. */
+typedef struct {
+    uint32_t code;  /* HORNHERDER_DONE, or the refusal */
+    uint8_t reason; /* one of the four above, 1 and 2 inside, 3 and 4 outside; 0 where refused */
+    uint8_t face;   /* outside, the face that the point is below; 0 where inside or refused */
+    uint16_t slot;  /* with a branch, the slot of its node; by itself, the point's own */
+    int64_t margin; /* outside, the point's margin to that face, at most 0; else 0 */
+} hornherder_explaining;
 
 /* What hornherder_place answers. */
 typedef struct {
@@ -299,6 +320,49 @@ hornherder_screening hornherder_screen(size_t k, size_t n, size_t h, const int32
                                        const int32_t *normals, size_t normals_len,
                                        const int64_t *offsets, size_t offsets_len,
                                        const uint8_t *marks, size_t marks_len);
+
+/*
+ * Says why a point of a shelf is inside a region or outside: settled with a whole branch, or by its
+ * own test. It goes one way down from the root to the point, and writes nothing. The order is
+ * checked first.
+ *
+ *   number   the number of the point, 0 to n - 1
+ *   points   k * n coordinates, each -32,768 to 32,767
+ *   order    at least n places; the first n must be the shelf of these points
+ *   normals  k * h components, each -32,767 to 32,767
+ *   offsets  h offsets, each -8,589,934,592 to 8,589,934,592
+ *   marks    h marks, each 0 (closed) or 1 (open)
+ *
+ * A branch holds the points in all its slots, its node's among them; the root's is the whole shelf.
+ * It is settled unless the slot of its node is open, as hornherder_list says: its box lies wholly
+ * below at least one face, or wholly above all of them. Of the settled branches that hold the point
+ * the one nearest the root is the reason, though it may have one slot alone; where there is none,
+ * the point's own test is:
+ *
+ *   HORNHERDER_INSIDE_WITH_BRANCH    the branch's box lies wholly above all faces
+ *   HORNHERDER_INSIDE_BY_ITSELF      the point is above every face
+ *   HORNHERDER_OUTSIDE_WITH_BRANCH   the branch's box lies wholly below a face
+ *   HORNHERDER_OUTSIDE_BY_ITSELF     the point is below a face
+ *
+ * With a branch the slot is that of its node, by itself that of the point. Outside, the face is the
+ * lowest-numbered one that the box lies wholly below, or that the point is below. The margin is the
+ * point's to that face in both cases: negative, or 0 where the point lies on it and it is open.
+ * hornherder_place, which looks for the least margin, may name another face. Inside, face and margin
+ * are 0; outside they may be too, so ask the reason. With no faces every point is inside with the
+ * branch of the root, whose node has slot n / 2.
+ *
+ * The point is inside exactly where hornherder_list, called with the same, lists its number inside.
+ * The reason is the point by itself exactly where its own slot is open, and so one of the visits.
+ *
+ * Answers HORNHERDER_DONE with reason, face, slot and margin, or a refusal, 1 to 8, then 11, then 9,
+ * then 13, with zeros. With a wrong order it is 9, also for a number of n or more.
+ */
+hornherder_explaining hornherder_explain(size_t k, size_t n, size_t h, uint32_t number,
+                                         const int32_t *points, size_t points_len,
+                                         const uint32_t *order, size_t order_len,
+                                         const int32_t *normals, size_t normals_len,
+                                         const int64_t *offsets, size_t offsets_len,
+                                         const uint8_t *marks, size_t marks_len);
 
 /*
  * Tests one point against a region, and says by how much it is inside or outside: its least margin

@@ -113,7 +113,7 @@ static wire_answer pass(wire_request request, const lent *buffers)
     return answer;
 }
 
-/* Passes a call on that has no floats. */
+/* Passes a call on that has no floats and asks about no number. */
 static wire_answer forward(int call, size_t k, size_t n, size_t h, const lent *buffers)
 {
     const wire_request request = {(uint64_t)call, k, n, h, {0}, {0}, {0, 0, 0}, 0};
@@ -156,6 +156,16 @@ hornherder_screening hornherder_screen(size_t k, size_t n, size_t h, const int32
     const lent buffers[WIRE_BUFFERS] = {
         {points, points_len, 0}, {order, order_len, 0}, {normals, normals_len, 0}, {offsets, offsets_len, 0}, {marks, marks_len, 0}};
     return forward(WIRE_SCREEN, k, n, h, buffers).screening;
+}
+
+hornherder_explaining hornherder_explain(size_t k, size_t n, size_t h, uint32_t number, const int32_t *points, size_t points_len,
+                                         const uint32_t *order, size_t order_len, const int32_t *normals, size_t normals_len,
+                                         const int64_t *offsets, size_t offsets_len, const uint8_t *marks, size_t marks_len)
+{
+    const wire_request request = {WIRE_EXPLAIN, k, n, h, {0}, {0}, {0, 0, 0}, number};
+    const lent buffers[WIRE_BUFFERS] = {
+        {points, points_len, 0}, {order, order_len, 0}, {normals, normals_len, 0}, {offsets, offsets_len, 0}, {marks, marks_len, 0}};
+    return pass(request, buffers).explaining;
 }
 
 hornherder_placing hornherder_place(size_t k, size_t h, const int32_t *point, size_t point_len, const int32_t *normals,

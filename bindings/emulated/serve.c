@@ -88,13 +88,42 @@ static hornherder_making make(const wire_request *r, int32_t *place)
     }
 }
 
+/* Makes the call of a request that has a region, with these buffers. */
+static wire_answer ask(const wire_request *r, void **b)
+{
+    const int32_t *points = (const int32_t *)b[WIRE_POINTS], *normals = (const int32_t *)b[WIRE_NORMALS];
+    const uint32_t *order = (const uint32_t *)b[WIRE_ORDER];
+    const int64_t *offsets = (const int64_t *)b[WIRE_OFFSETS];
+    const uint8_t *marks = (const uint8_t *)b[WIRE_MARKS];
+    const uint64_t *length = r->length;
+    wire_answer answer = {{0, 0, 0, 0}};
+    switch (r->call) {
+    case WIRE_LIST:
+        answer.listing = hornherder_list(r->k, r->n, r->h, points, length[WIRE_POINTS], order, length[WIRE_ORDER], normals,
+                                         length[WIRE_NORMALS], offsets, length[WIRE_OFFSETS], marks, length[WIRE_MARKS],
+                                         (uint32_t *)b[WIRE_LIST_BUFFER], length[WIRE_LIST_BUFFER]);
+        return answer;
+    case WIRE_SCREEN:
+        answer.screening = hornherder_screen(r->k, r->n, r->h, points, length[WIRE_POINTS], order, length[WIRE_ORDER], normals,
+                                             length[WIRE_NORMALS], offsets, length[WIRE_OFFSETS], marks, length[WIRE_MARKS]);
+        return answer;
+    case WIRE_EXPLAIN:
+        answer.explaining = hornherder_explain(r->k, r->n, r->h, r->number, points, length[WIRE_POINTS], order, length[WIRE_ORDER],
+                                               normals, length[WIRE_NORMALS], offsets, length[WIRE_OFFSETS], marks,
+                                               length[WIRE_MARKS]);
+        return answer;
+    default:
+        answer.placing = hornherder_place(r->k, r->h, points, length[WIRE_POINTS], normals, length[WIRE_NORMALS], offsets,
+                                          length[WIRE_OFFSETS], marks, length[WIRE_MARKS]);
+        return answer;
+    }
+}
+
 /* Makes the call of a request with these buffers. */
 static wire_answer call(const wire_request *r, void **b)
 {
-    const int32_t *points = (const int32_t *)b[WIRE_POINTS], *normals = (const int32_t *)b[WIRE_NORMALS];
-    const int64_t *offsets = (const int64_t *)b[WIRE_OFFSETS];
-    const uint8_t *marks = (const uint8_t *)b[WIRE_MARKS];
-    uint32_t *order = (uint32_t *)b[WIRE_ORDER], *list = (uint32_t *)b[WIRE_LIST_BUFFER];
+    const int32_t *points = (const int32_t *)b[WIRE_POINTS];
+    uint32_t *order = (uint32_t *)b[WIRE_ORDER];
     const uint64_t *length = r->length;
     wire_answer answer = {{0, 0, 0, 0}};
     switch (r->call) {
@@ -105,18 +134,10 @@ static wire_answer call(const wire_request *r, void **b)
         answer.code = hornherder_check(r->k, r->n, points, length[WIRE_POINTS], order, length[WIRE_ORDER]);
         return answer;
     case WIRE_LIST:
-        answer.listing = hornherder_list(r->k, r->n, r->h, points, length[WIRE_POINTS], order, length[WIRE_ORDER], normals,
-                                         length[WIRE_NORMALS], offsets, length[WIRE_OFFSETS], marks, length[WIRE_MARKS], list,
-                                         length[WIRE_LIST_BUFFER]);
-        return answer;
     case WIRE_SCREEN:
-        answer.screening = hornherder_screen(r->k, r->n, r->h, points, length[WIRE_POINTS], order, length[WIRE_ORDER], normals,
-                                             length[WIRE_NORMALS], offsets, length[WIRE_OFFSETS], marks, length[WIRE_MARKS]);
-        return answer;
+    case WIRE_EXPLAIN:
     case WIRE_PLACE:
-        answer.placing = hornherder_place(r->k, r->h, points, length[WIRE_POINTS], normals, length[WIRE_NORMALS], offsets,
-                                          length[WIRE_OFFSETS], marks, length[WIRE_MARKS]);
-        return answer;
+        return ask(r, b);
     case WIRE_POINT_FROM_COLOUR:
     case WIRE_POINT_FROM_GREY:
     case WIRE_POINT_FROM_NOTHING:

@@ -13,6 +13,7 @@ enum {
     WIRE_CHECK,
     WIRE_LIST,
     WIRE_SCREEN,
+    WIRE_EXPLAIN,
     WIRE_PLACE,
     WIRE_POINT_FROM_COLOUR,
     WIRE_POINT_FROM_GREY,
@@ -31,13 +32,14 @@ typedef struct {
     uint64_t length[WIRE_BUFFERS]; /* elements */
     uint64_t null[WIRE_BUFFERS];   /* 1 where the pointer was NULL */
     float value[3];                /* of a reading, those it has first */
-    uint32_t unused;               /* 0, so that no byte is left unset */
+    uint32_t number;               /* of the point that is asked about, else 0; so no byte is left unset */
 } wire_request;
 
 /* The answer of a call; the code alone where that is a number. The listing comes first: it has every byte, so clearing it clears all. */
 typedef union {
     hornherder_listing listing;
     hornherder_screening screening;
+    hornherder_explaining explaining;
     hornherder_placing placing;
     hornherder_making making;
     uint32_t code;

@@ -4,6 +4,7 @@
 use crate::bounds;
 use crate::lent::Lent;
 use crate::margins;
+use crate::reasons;
 use hornherder::raw;
 use std::fmt::Debug;
 
@@ -168,14 +169,11 @@ fn screened(lent: &Lent) -> raw::Screening {
 /// Asks that screen answers by the list call with room in its buffer: the same refusal, else the first entry of its inside list and no
 /// more visits, or that there is none and all the visits.
 fn first_of_list(lent: &Lent, answer: raw::Screening) {
-    let mut roomy = lent.clone();
-    roomy.list = vec![0; lent.n.min(65_535)];
-    let (listing, after) = listed(&roomy);
-    let first = after.list[..listing.inside as usize].first();
+    let (listing, inside) = listed_with_room(lent);
     assert_eq!(answer.code, listing.code, "screen by list of {lent:?}");
     assert_eq!(
         (answer.found, answer.number),
-        first.map_or((0, 0), |number| (1, *number)),
+        inside.first().map_or((0, 0), |number| (1, *number)),
         "screen by the inside list of {lent:?}"
     );
     let most = listing.visits;
@@ -185,6 +183,104 @@ fn first_of_list(lent: &Lent, answer: raw::Screening) {
     );
     if answer.found == 0 {
         assert_eq!(answer.visits, most, "screen by the visits of {lent:?}");
+    }
+}
+
+/// The library's list with room in its buffer: the answer, and the numbers inside.
+fn listed_with_room(lent: &Lent) -> (raw::Listing, Vec<u32>) {
+    let mut roomy = lent.clone();
+    roomy.list = vec![0; lent.n.min(65_535)];
+    let (listing, after) = listed(&roomy);
+    (listing, after.list[..listing.inside as usize].to_vec())
+}
+
+/// Compares explain, also with the calls that must be answered alike, and holds it to what list answers and to the words.
+pub fn explain(lent: &Lent) -> raw::Explaining {
+    let ours = lent.clone();
+    let answer = explained(&ours);
+    let expected = second::explain(
+        lent.k,
+        lent.n,
+        lent.h,
+        lent.number,
+        &lent.points,
+        &lent.order,
+        &lent.normals,
+        &lent.offsets,
+        &lent.marks,
+    );
+    let theirs = raw::Explaining {
+        code: expected.code,
+        reason: expected.reason,
+        face: expected.face,
+        slot: expected.slot,
+        margin: expected.margin,
+    };
+    assert_eq!(answer, theirs, "explain of {lent:?}");
+    same_lent("explain", lent, &ours, lent);
+    explained_alike(lent, answer);
+    explained_by_list(lent, answer);
+    reasons::hold(lent, answer);
+    answer
+}
+
+/// Calls the library's explain, with other numbers right behind the points and each slice of the faces.
+fn explained(lent: &Lent) -> raw::Explaining {
+    let Lent {
+        k, n, h, number, ..
+    } = *lent;
+    lend(lent, &lent.points, |points| {
+        lend(lent, &lent.normals, |normals| {
+            lend(lent, &lent.offsets, |offsets| {
+                lend(lent, &lent.marks, |marks| {
+                    raw::explain(
+                        k,
+                        n,
+                        h,
+                        number,
+                        points,
+                        &lent.order,
+                        normals,
+                        offsets,
+                        marks,
+                    )
+                })
+            })
+        })
+    })
+}
+
+/// Asks that the library's explain answers alike: in everything with other numbers behind the slices, and with closed faces in place of
+/// open ones in all but the margin to such a face, which is one less.
+fn explained_alike(lent: &Lent, answer: raw::Explaining) {
+    let behind = explained(&lent.with_other_behind());
+    assert_eq!(behind, answer, "explain by what is behind of {lent:?}");
+    if let Some(closed) = lent.with_open_as_closed() {
+        let face = usize::from(answer.face);
+        let outside = answer.reason > raw::INSIDE_BY_ITSELF;
+        let moved = outside && closed.marks[face] != lent.marks[face];
+        let expected = raw::Explaining {
+            margin: answer.margin - i64::from(moved),
+            ..answer
+        };
+        let told = explained(&closed);
+        assert_eq!(told, expected, "explain by closed faces of {lent:?}");
+    }
+}
+
+/// Asks that explain answers by the list call with room in its buffer: the same refusal, or 13 where that is done and no point has the
+/// number; else inside exactly where that lists the number inside.
+fn explained_by_list(lent: &Lent, answer: raw::Explaining) {
+    let (listing, inside) = listed_with_room(lent);
+    let code = match listing.code {
+        0 if lent.number as usize >= lent.n => 13,
+        code => code,
+    };
+    assert_eq!(answer.code, code, "explain by list of {lent:?}");
+    if code == 0 {
+        let listed = inside.contains(&lent.number);
+        let told = answer.reason <= raw::INSIDE_BY_ITSELF;
+        assert_eq!(told, listed, "explain by the inside list of {lent:?}");
     }
 }
 

@@ -7,7 +7,8 @@ use std::fmt;
 /// The greatest offset.
 pub const MOST_OFFSET: i64 = 8_589_934_592;
 
-/// The arguments of all calls: build and check take the first part, the screen all but the list buffer, the one-point test the point.
+/// The arguments of all calls: build and check take the first part, the screen all but the list buffer, the explain call the same with the
+/// number, the one-point test the point.
 #[derive(Clone, PartialEq, Eq)]
 pub struct Lent {
     pub k: usize,
@@ -19,8 +20,10 @@ pub struct Lent {
     pub offsets: Vec<i64>,
     pub marks: Vec<u8>,
     pub list: Vec<u32>,
+    pub number: u32,
     pub point: Vec<i32>,
-    /// What stands in memory directly behind the marks, and for the one-point test behind every slice.
+    /// What stands in memory directly behind the marks, and for the one-point test and the explain call behind the points and all slices
+    /// of the faces.
     pub beyond: [u8; 4],
 }
 
@@ -44,6 +47,7 @@ impl Lent {
             offsets: Vec::new(),
             marks: Vec::new(),
             list,
+            number: 0,
             point,
             beyond: [OPEN, CLOSED, OPEN, CLOSED],
         }
@@ -91,6 +95,20 @@ impl Lent {
             point: self.point_of(number).to_vec(),
             ..self.clone()
         }
+    }
+
+    /// The same with this number for the explain call.
+    pub fn with_number(&self, number: u32) -> Lent {
+        Lent {
+            number,
+            ..self.clone()
+        }
+    }
+
+    /// The same with this face of an accepted call alone.
+    pub fn with_face_alone(&self, face: usize) -> Lent {
+        let none = self.with_faces(Vec::new(), Vec::new());
+        none.with_face(&self.faces()[face])
     }
 
     /// The same with one more face.
@@ -146,6 +164,7 @@ impl fmt::Debug for Lent {
     /// The sizes, and the numbers only where they are few.
     fn fmt(&self, out: &mut fmt::Formatter<'_>) -> fmt::Result {
         write!(out, "k {}, n {}, h {}", self.k, self.n, self.h)?;
+        write!(out, ", number {}", self.number)?;
         if self.points.len() + self.order.len() + self.list.len() + self.normals.len() > 200 {
             return Ok(());
         }

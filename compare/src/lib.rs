@@ -10,6 +10,7 @@ pub mod faces;
 pub mod lent;
 pub mod margins;
 pub mod readings;
+pub mod reasons;
 pub mod seen;
 pub mod shelves;
 pub mod stock;

@@ -1,4 +1,4 @@
-//! Orders damaged in every way: the answer of check, of list and of screen is the second program's, and
+//! Orders damaged in every way: the answer of check, of list, of screen and of explain is the second program's, and
 //! nothing is written.
 
 use compare::calls;
@@ -20,12 +20,13 @@ fn shelf(chance: &mut Chance, k: usize) -> Lent {
     calls::shelf(&Lent::new(chance, k, points)).with_faces(normals, offsets)
 }
 
-/// Compares check, list and screen on a damaged order, and says whether it was refused.
+/// Compares check, list, screen and explain on a damaged order, and says whether it was refused.
 fn refused(shelf: &Lent, order: &[u32]) -> bool {
     let damaged = shelf.with_order(order);
     let code = calls::check(&damaged);
     assert_eq!(calls::list(&damaged).0.code, code);
     assert_eq!(calls::screen(&damaged).code, code);
+    assert_eq!(calls::explain(&damaged).code, code);
     assert_eq!(code == 9, order != &shelf.order[..shelf.n]);
     code == 9
 }
@@ -52,7 +53,7 @@ fn every_way() {
     }
 }
 
-/// Of all contents of a small order exactly one is accepted.
+/// Of all contents of a small order exactly one is accepted. A wrong one is refused before a number that no point has.
 #[test]
 fn all_contents() {
     cases::make("all contents of small orders", 40, |chance, case| {
@@ -64,6 +65,9 @@ fn all_contents() {
             let code = calls::check(&call);
             assert_eq!(calls::list(&call).0.code, code);
             assert_eq!(calls::screen(&call).code, code);
+            let no_point = call.with_number(n as u32);
+            let expected = if code == 0 { 13 } else { code };
+            assert_eq!(calls::explain(&no_point).code, expected);
             code == 0
         });
         assert_eq!(accepted.count(), 1);

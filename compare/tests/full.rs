@@ -36,6 +36,10 @@ fn full_shelves() {
         let marked = call.with_marks(faces::marks(chance, h));
         nearness.look(&marked, calls::list(&marked).0.visits);
         assert_eq!(calls::screen(&marked).code, 0);
+        let some = chance.below(N) as u32;
+        assert_eq!(calls::explain(&call.with_number(some)).code, 0);
+        let other = chance.below(N) as u32;
+        assert_eq!(calls::explain(&marked.with_number(other)).code, 0);
     });
     println!("full shelves: {nearness}");
 }
@@ -63,6 +67,19 @@ fn deepest_regions(k: usize, points: &[i32], order: &[u32], marks: &[u8; 32]) {
     assert!(answer.visits > 0);
 }
 
+/// Makes the deepest explain call on a shelf of this dimension: the point in a slot of the last depth, through which faces of these marks go
+/// both ways, so that they cut every branch that holds it.
+fn deepest_way(k: usize, points: &[i32], order: &[u32], marks: &[u8; 32]) {
+    let slot = N / 2 - 1;
+    let number = order[slot];
+    let point = &points[number as usize * k..][..k];
+    let sum: i64 = point.iter().map(|&x| i64::from(x)).sum();
+    let (normals, _) = empty_on_a_plane(k);
+    let offsets = [sum, -sum].repeat(16);
+    let answer = raw::explain(k, N, 32, number, points, order, &normals, &offsets, marks);
+    assert_eq!((answer.code, usize::from(answer.slot)), (0, slot));
+}
+
 /// Makes a point of each kind of reading.
 fn every_reading() {
     let mut place = [0; 3];
@@ -88,6 +105,7 @@ fn stack() {
             assert_eq!(raw::check(k, N, &points, &order), 0);
             for mark in [CLOSED, OPEN] {
                 deepest_regions(k, &points, &order, &[mark; 32]);
+                deepest_way(k, &points, &order, &[mark; 32]);
             }
         }
     };

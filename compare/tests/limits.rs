@@ -15,8 +15,8 @@ fn right(chance: &mut Chance, k: usize, n: usize, h: usize) -> Lent {
     calls::shelf(&lent).with_faces(vec![1; k * h], vec![0; h])
 }
 
-/// Asks what build, check, list and the one-point test answer, with the second program as everywhere. The screen
-/// answers as list does where the list buffer, which it does not take, has room.
+/// Asks what build, check, list and the one-point test answer, with the second program as everywhere. The screen and the explain call
+/// answer as list does where the list buffer, which they do not take, has room; but where there is no point, explain refuses with 13.
 fn answers(lent: &Lent, build: u32, check: u32, list: u32, place: u32) {
     assert_eq!(calls::build(lent).0, build, "build of {lent:?}");
     assert_eq!(calls::check(lent), check, "check of {lent:?}");
@@ -24,6 +24,8 @@ fn answers(lent: &Lent, build: u32, check: u32, list: u32, place: u32) {
     assert_eq!(calls::place(lent).code, place, "place of {lent:?}");
     if lent.list.len() >= lent.n {
         assert_eq!(calls::screen(lent).code, list, "screen of {lent:?}");
+        let explain = if list == 0 && lent.n == 0 { 13 } else { list };
+        assert_eq!(calls::explain(lent).code, explain, "explain of {lent:?}");
     }
 }
 
@@ -158,6 +160,23 @@ fn marks() {
                 let code = if mark < 2 { 0 } else { 11 };
                 answers(&lent, 0, 0, code, code);
             }
+        }
+    }
+}
+
+/// The last number passes and n does not, nor those beyond; none passes where there are no points.
+#[test]
+fn numbers() {
+    let mut chance = Chance::new(cases::SEED);
+    for (k, n) in [(1, 0), (3, 1), (2, 5), (4, 300), (3, 65_535)] {
+        let right = right(&mut chance, k, n, 3);
+        let number = n as u32;
+        let beyond = [number, number + 1, 65_535, 65_536, 65_537, u32::MAX];
+        let refused = beyond.map(|number| (number, 13));
+        let passed = number.checked_sub(1).map(|last| [(0, 0), (last, 0)]);
+        for (number, code) in passed.into_iter().flatten().chain(refused) {
+            let lent = right.with_number(number);
+            assert_eq!(calls::explain(&lent).code, code, "explain of {lent:?}");
         }
     }
 }

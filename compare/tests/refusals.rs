@@ -14,24 +14,26 @@ const CHECK: u8 = 2;
 const LIST: u8 = 4;
 const PLACE: u8 = 8;
 const SCREEN: u8 = 16;
-const SHELF: u8 = BUILD | CHECK | LIST | SCREEN;
-const REGION: u8 = LIST | PLACE | SCREEN;
-const ORDER: u8 = CHECK | LIST | SCREEN;
+const EXPLAIN: u8 = 32;
+const SHELF: u8 = BUILD | CHECK | LIST | SCREEN | EXPLAIN;
+const REGION: u8 = LIST | PLACE | SCREEN | EXPLAIN;
+const ORDER: u8 = CHECK | LIST | SCREEN | EXPLAIN;
 
 /// Each call: its name, its part of the sum, and the numbers that it may refuse with, in the order of its tests.
-const CALLS: [(&str, u8, &[u32]); 5] = [
+const CALLS: [(&str, u8, &[u32]); 6] = [
     ("build", BUILD, &[1, 2, 3, 4, 5]),
     ("check", CHECK, &[1, 2, 3, 4, 5, 9]),
     ("list", LIST, &[1, 2, 3, 4, 5, 6, 7, 8, 11, 9]),
     ("place", PLACE, &[1, 3, 5, 6, 7, 8, 11]),
     ("screen", SCREEN, &[1, 2, 3, 4, 5, 6, 7, 8, 11, 9]),
+    ("explain", EXPLAIN, &[1, 2, 3, 4, 5, 6, 7, 8, 11, 9, 13]),
 ];
 
 /// A fault: the number that it is refused with, the calls that refuse it, and how it is made.
 type Fault = (u32, u8, fn(&mut Lent));
 
 /// Every fault.
-const FAULTS: [Fault; 39] = [
+const FAULTS: [Fault; 42] = [
     (1, SHELF | PLACE, |lent| lent.k = 0),
     (1, SHELF | PLACE, |lent| lent.k = 5),
     (1, SHELF | PLACE, |lent| lent.k = usize::MAX),
@@ -74,6 +76,9 @@ const FAULTS: [Fault; 39] = [
         let number = lent.order.get(1).copied().unwrap_or(0);
         first(&mut lent.order, number)
     }),
+    (13, EXPLAIN, |lent| lent.number = 3),
+    (13, EXPLAIN, |lent| lent.number = 65_536),
+    (13, EXPLAIN, |lent| lent.number = u32::MAX),
 ];
 
 /// Puts a number in the first place, if there is one.
@@ -134,7 +139,8 @@ fn refused(right: &Lent, faults: &[Fault], seen: &mut Seen<(&'static str, u32)>)
             CHECK => calls::check(&lent),
             LIST => calls::list(&lent).0.code,
             PLACE => calls::place(&lent).code,
-            _ => calls::screen(&lent).code,
+            SCREEN => calls::screen(&lent).code,
+            _ => calls::explain(&lent).code,
         };
         if let Some(number) = first_in_order(faults, call, tests) {
             assert_eq!(code, number, "{name} of {lent:?}");

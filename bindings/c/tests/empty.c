@@ -15,6 +15,12 @@ static int finds_nothing(hornherder_screening answer, uint32_t code)
     return answer.code == code && answer.found == 0 && answer.number == 0 && answer.visits == 0;
 }
 
+/* 1 where an explaining is this refusal. */
+static int explains_nothing(hornherder_explaining answer, uint32_t code)
+{
+    return answer.code == code && answer.reason == 0 && answer.face == 0 && answer.slot == 0 && answer.margin == 0;
+}
+
 /* 1 where a placing has this code and this inside, and nothing is measured. */
 static int not_measured(hornherder_placing answer, uint32_t code, uint8_t inside)
 {
@@ -41,6 +47,7 @@ int main(void)
         right &= hornherder_check(k, 0, NULL, 0, NULL, 0) == HORNHERDER_DONE;
         right &= is(hornherder_list(k, 0, 0, NULL, 0, NULL, 0, NULL, 0, NULL, 0, NULL, 0, NULL, 0), HORNHERDER_DONE);
         right &= finds_nothing(hornherder_screen(k, 0, 0, NULL, 0, NULL, 0, NULL, 0, NULL, 0, NULL, 0), HORNHERDER_DONE);
+        right &= explains_nothing(hornherder_explain(k, 0, 0, 0, NULL, 0, NULL, 0, NULL, 0, NULL, 0, NULL, 0), HORNHERDER_NO_SUCH_NUMBER);
         right &= not_measured(inside, HORNHERDER_DONE, 1);
         right &= not_measured(none, HORNHERDER_POINTS_LENGTH, 0);
         right &= hornherder_build(k, 1, zero, k, NULL, 0) == HORNHERDER_SHORT_BUFFER;
@@ -48,8 +55,11 @@ int main(void)
         right &= is(hornherder_list(k, 0, 1, NULL, 0, NULL, 0, NULL, 0, NULL, 0, NULL, 0, NULL, 0), HORNHERDER_FACES_LENGTH);
         right &= finds_nothing(hornherder_screen(k, 1, 0, zero, k, NULL, 0, NULL, 0, NULL, 0, NULL, 0), HORNHERDER_SHORT_BUFFER);
         right &= finds_nothing(hornherder_screen(k, 0, 1, NULL, 0, NULL, 0, NULL, 0, NULL, 0, NULL, 0), HORNHERDER_FACES_LENGTH);
+        right &= explains_nothing(hornherder_explain(k, 1, 0, 0, zero, k, NULL, 0, NULL, 0, NULL, 0, NULL, 0), HORNHERDER_SHORT_BUFFER);
+        right &= explains_nothing(hornherder_explain(k, 0, 1, 0, NULL, 0, NULL, 0, NULL, 0, NULL, 0, NULL, 0), HORNHERDER_FACES_LENGTH);
         right &= is(hornherder_list(k, 0, 1, NULL, 0, NULL, 0, zero, k, &offset, 1, NULL, 0, NULL, 0), HORNHERDER_MARKS);
         right &= finds_nothing(hornherder_screen(k, 0, 1, NULL, 0, NULL, 0, zero, k, &offset, 1, NULL, 0), HORNHERDER_MARKS);
+        right &= explains_nothing(hornherder_explain(k, 0, 1, 0, NULL, 0, NULL, 0, zero, k, &offset, 1, NULL, 0), HORNHERDER_MARKS);
         right &= not_measured(unmarked, HORNHERDER_MARKS, 0);
     }
     right &= not_three(hornherder_point_from_colour(0, 0, 0, NULL, 0)) && not_three(hornherder_point_from_grey(0, NULL, 0));

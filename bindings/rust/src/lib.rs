@@ -3,8 +3,8 @@
 //! The work is done by the archive `libhornherder.a`, whose every call is proved to give exactly the
 //! answer that its definitions say. This crate has two layers:
 //!
-//! - [`Shelf`], [`Region`], [`Listing`], [`Screening`], [`Placing`] and [`Reading`], which derive the numbers
-//!   of points and of faces and give each refusal as a [`Refusal`];
+//! - [`Shelf`], [`Region`], [`Listing`], [`Screening`], [`Reason`], [`Placing`] and [`Reading`], which derive
+//!   the numbers of points and of faces and give each refusal as a [`Refusal`];
 //! - [`raw`], the calls themselves with every number and slice as given.
 //!
 //! ```
@@ -28,6 +28,10 @@
 //! // Is any point inside at all? The first in shelf order says so, and the call stops there.
 //! assert_eq!(shelf.screen(&region)?.found(), Some(2));
 //!
+//! // Why is point 1 outside? It is settled with a whole branch of the shelf.
+//! let reason = shelf.explain(&region, 1)?;
+//! assert_eq!(reason.to_string(), "outside: below face 0 by 1, with the whole branch at slot 0");
+//!
 //! // By how much is a point outside? Point 5 is below face 0 by 3.
 //! let placing = region.place(&[2, 2])?;
 //! assert!(!placing.inside());
@@ -43,7 +47,8 @@
 //! What a call costs: a list call checks the order first. On 65,535 points with 8 faces that is about
 //! seven tenths of the call on x86-64 and four fifths on Arm; on small shelves less. A check before a list
 //! call pays for it twice. A screen checks the order too, and does no more than a list call: where one of
-//! the first slots is inside, it is little more than that check.
+//! the first slots is inside, it is little more than that check. An explain call goes one way down from the
+//! root, so it is little more than that check for every point.
 //!
 //! The library keeps no state, so any number of threads may call at once. A call needs less than
 //! [`raw::STACK_BYTES`] of stack.
@@ -54,6 +59,7 @@ mod listing;
 mod placing;
 pub mod raw;
 mod reading;
+mod reason;
 mod refusal;
 mod region;
 mod screening;
@@ -62,6 +68,7 @@ mod shelf;
 pub use listing::{Listing, Outside};
 pub use placing::{Margin, Placing};
 pub use reading::Reading;
+pub use reason::Reason;
 pub use refusal::Refusal;
 pub use region::Region;
 pub use screening::Screening;

@@ -21,6 +21,10 @@
 //! assert_eq!((answer.inside, answer.outside, answer.visits), (1, 1, 2));
 //! let answer = raw::screen(1, 2, 1, &points, &order, &[1], &[5], &closed);
 //! assert_eq!((answer.found, answer.number, answer.visits), (1, 1, 2));
+//! let answer = raw::explain(1, 2, 1, 0, &points, &order, &[1], &[5], &closed);
+//! assert_eq!((answer.reason, answer.slot), (raw::OUTSIDE_BY_ITSELF, 0));
+//! assert_eq!((answer.face, answer.margin), (0, -5));
+//! assert_eq!(raw::explain(1, 2, 0, 2, &points, &order, &[], &[], &[]).code, 13); // there is no point 2
 //! let answer = raw::place(1, 1, &[5], &[1], &[5], &closed);
 //! assert_eq!((answer.inside, answer.measured, answer.face, answer.margin), (1, 1, 0, 0));
 //! assert_eq!(raw::place(1, 1, &[5], &[1], &[5], &[raw::OPEN_FACE]).inside, 0);
@@ -38,7 +42,7 @@
 //! ```
 
 /// The version of the calls and of the archive: the header's `HORNHERDER_VERSION`.
-pub const VERSION: u32 = 6;
+pub const VERSION: u32 = 7;
 
 /// The stack that is enough for any call, in bytes.
 pub const STACK_BYTES: usize = 32_768;
@@ -48,6 +52,18 @@ pub const CLOSED_FACE: u8 = 0;
 
 /// The mark of an open face: a point on it is not above it.
 pub const OPEN_FACE: u8 = 1;
+
+/// The reason "inside, settled with a whole branch".
+pub const INSIDE_WITH_BRANCH: u8 = 1;
+
+/// The reason "inside by its own test".
+pub const INSIDE_BY_ITSELF: u8 = 2;
+
+/// The reason "outside, settled with a whole branch below a face".
+pub const OUTSIDE_WITH_BRANCH: u8 = 3;
+
+/// The reason "outside by its own test".
+pub const OUTSIDE_BY_ITSELF: u8 = 4;
 
 /// What [`list`] answers.
 #[must_use]
@@ -78,6 +94,24 @@ pub struct Screening {
     /// How many slots are open among those up to and including the found one; of all slots where none is
     /// found.
     pub visits: u32,
+}
+
+/// What [`explain`] answers.
+#[must_use]
+#[repr(C)]
+#[derive(Clone, Copy, Debug, Default, PartialEq, Eq)]
+pub struct Explaining {
+    /// 0 for done, or the number of the refusal.
+    pub code: u32,
+    /// [`INSIDE_WITH_BRANCH`], [`INSIDE_BY_ITSELF`], [`OUTSIDE_WITH_BRANCH`] or [`OUTSIDE_BY_ITSELF`].
+    pub reason: u8,
+    /// For outside, the lowest-numbered face that the branch's box lies wholly below, or that the point is
+    /// below; else 0.
+    pub face: u8,
+    /// The slot of the branch's node; by its own test, the point's own slot.
+    pub slot: u16,
+    /// For outside, the point's margin to that face, which is at most 0; else 0.
+    pub margin: i64,
 }
 
 /// What [`place`] answers.
@@ -161,6 +195,23 @@ extern "C" {
         marks: *const u8,
         marks_len: usize,
     ) -> Screening;
+
+    fn hornherder_explain(
+        k: usize,
+        n: usize,
+        h: usize,
+        number: u32,
+        points: *const i32,
+        points_len: usize,
+        order: *const u32,
+        order_len: usize,
+        normals: *const i32,
+        normals_len: usize,
+        offsets: *const i64,
+        offsets_len: usize,
+        marks: *const u8,
+        marks_len: usize,
+    ) -> Explaining;
 
     fn hornherder_place(
         k: usize,
@@ -281,6 +332,41 @@ pub fn screen(
             k,
             n,
             h,
+            points.as_ptr(),
+            points.len(),
+            order.as_ptr(),
+            order.len(),
+            normals.as_ptr(),
+            normals.len(),
+            offsets.as_ptr(),
+            offsets.len(),
+            marks.as_ptr(),
+            marks.len(),
+        )
+    }
+}
+
+/// Says why the point of this number is inside or outside: with a whole branch of the shelf, or by its own
+/// test. The order is checked first. Refusals: 1 to 8, then 11, then 9, then 13.
+#[allow(clippy::too_many_arguments)]
+pub fn explain(
+    k: usize,
+    n: usize,
+    h: usize,
+    number: u32,
+    points: &[i32],
+    order: &[u32],
+    normals: &[i32],
+    offsets: &[i64],
+    marks: &[u8],
+) -> Explaining {
+    // SAFETY: as said above.
+    unsafe {
+        hornherder_explain(
+            k,
+            n,
+            h,
+            number,
             points.as_ptr(),
             points.len(),
             order.as_ptr(),

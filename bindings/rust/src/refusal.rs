@@ -78,6 +78,7 @@ refusals! {
     NotTheTree = 9, "the first n slots are not the tree of these points", "the points changed, or the order is of another shelf: build again";
     Marks = 11, "the marks are not h long, or a mark is not 0 or 1", "closed faces left without a mark, or marks never set";
     ValueRange = 12, "a value is not finite, or not from -128 up to but not including 128", "a pixel that was never rendered, or values on a scale of 0 to 255";
+    NoSuchNumber = 13, "the number is n or more", "numbers counted from 1, or a number of another, larger shelf";
 }
 
 impl Refusal {

@@ -2,6 +2,7 @@
 
 use crate::listing::Listing;
 use crate::raw;
+use crate::reason::Reason;
 use crate::refusal::{done, same_version, Refusal};
 use crate::region::Region;
 use crate::screening::Screening;
@@ -165,6 +166,47 @@ impl<'s> Shelf<'s> {
         done(answer.code)?;
         let found = (answer.found == 1).then_some(answer.number);
         Ok(Screening::new(found, answer.visits))
+    }
+
+    /// Says why the point of this number is inside a region or outside: settled with a whole branch of the
+    /// shelf, or by its own test.
+    ///
+    /// ```
+    /// use hornherder::{Margin, Reason, Region, Shelf};
+    ///
+    /// let shelf = Shelf::build(1, vec![30, 10, 20])?;
+    /// let from_20 = Region::everywhere(1)?.with_face(&[1], 20)?;
+    ///
+    /// // The root's node is point 2, with 20. The branch before it, from 10 to 20, is cut by the face; the
+    /// // one after it, from 20 to 30, is wholly above.
+    /// assert_eq!(shelf.explain(&from_20, 0)?, Reason::InsideWithBranch { slot: 2 });
+    /// assert_eq!(shelf.explain(&from_20, 2)?, Reason::InsideByItself { slot: 1 });
+    /// let margin = Margin { face: 0, amount: -10 };
+    /// assert_eq!(shelf.explain(&from_20, 1)?, Reason::OutsideByItself { slot: 0, margin });
+    ///
+    /// // From 31 on the whole shelf is outside, and each point by its own margin.
+    /// let from_31 = Region::everywhere(1)?.with_face(&[1], 31)?;
+    /// let why = shelf.explain(&from_31, 0)?;
+    /// assert_eq!(why.to_string(), "outside: below face 0 by 1, with the whole branch at slot 1");
+    /// # Ok::<(), hornherder::Refusal>(())
+    /// ```
+    ///
+    /// Refused are faces made for another dimension, and a number that no point of the shelf has. The order
+    /// is checked first, as in [`list`](Shelf::list).
+    pub fn explain(&self, region: &Region, number: u32) -> Result<Reason, Refusal> {
+        let answer = raw::explain(
+            self.k,
+            self.len(),
+            region.h(),
+            number,
+            &self.points,
+            &self.order,
+            region.normals(),
+            region.offsets(),
+            region.marks(),
+        );
+        done(answer.code)?;
+        Ok(Reason::new(answer))
     }
 }
 

@@ -58,6 +58,10 @@ fn same_constants() {
         ("MAX_MARGIN", hornherder::MAX_MARGIN),
         ("CLOSED_FACE", i64::from(raw::CLOSED_FACE)),
         ("OPEN_FACE", i64::from(raw::OPEN_FACE)),
+        ("INSIDE_WITH_BRANCH", i64::from(raw::INSIDE_WITH_BRANCH)),
+        ("INSIDE_BY_ITSELF", i64::from(raw::INSIDE_BY_ITSELF)),
+        ("OUTSIDE_WITH_BRANCH", i64::from(raw::OUTSIDE_WITH_BRANCH)),
+        ("OUTSIDE_BY_ITSELF", i64::from(raw::OUTSIDE_BY_ITSELF)),
         ("DONE", 0),
     ];
     for (name, value) in limits {
@@ -71,11 +75,16 @@ fn same_constants() {
     assert!(header.is_empty(), "only in the header: {header:?}");
 }
 
-/// Every answer has 16 bytes, or 8 where a point is made, and its numbers where the C tests of margins and readings ask for them.
+/// Every answer has 16 bytes, or 8 where a point is made, and its numbers where the C tests of reasons, margins and readings ask for them.
 #[test]
 fn same_layout() {
     assert_eq!(size_of::<raw::Listing>(), 16);
     assert_eq!(size_of::<raw::Screening>(), 16);
+    assert_eq!(size_of::<raw::Explaining>(), 16);
+    assert_eq!(offset_of!(raw::Explaining, reason), 4);
+    assert_eq!(offset_of!(raw::Explaining, face), 5);
+    assert_eq!(offset_of!(raw::Explaining, slot), 6);
+    assert_eq!(offset_of!(raw::Explaining, margin), 8);
     assert_eq!(size_of::<raw::Placing>(), 16);
     assert_eq!(offset_of!(raw::Placing, inside), 4);
     assert_eq!(offset_of!(raw::Placing, measured), 5);

@@ -136,6 +136,22 @@ fn of_screen() {
     assert_eq!(other, Err(Refusal::FacesLength));
 }
 
+/// Explaining meets 7, and 13 for a number that no point has.
+#[test]
+fn of_explain() {
+    let shelf = Shelf::build(2, vec![1, 2, 3, 4]).unwrap();
+    let everywhere = Region::everywhere(2).unwrap();
+    for number in [2, 3, 65_536, u32::MAX] {
+        let refused = shelf.explain(&everywhere, number);
+        assert_eq!(refused, Err(Refusal::NoSuchNumber));
+        let other = shelf.explain(&faces(1).unwrap(), number);
+        assert_eq!(other, Err(Refusal::FacesLength));
+    }
+    assert!(shelf.explain(&everywhere, 1).is_ok());
+    let empty = Shelf::build(2, vec![]).unwrap();
+    assert_eq!(empty.explain(&everywhere, 0), Err(Refusal::NoSuchNumber));
+}
+
 /// A row of the README's table: its number, when it is given, and the likely cause.
 fn row(line: &str) -> Option<(u32, &str, &str)> {
     let cells: Vec<_> = line.split('|').map(str::trim).collect();

@@ -1,7 +1,8 @@
-// Reading the lent points: a whole point, and one coordinate of a point.
+// Reading the lent points: a whole point, one coordinate of a point, and the comparison of two numbers.
 ghost use mathlib.Core.Path.{_≡_};
 ghost use Prim.Native.Nat.{_<_};
 ghost use Rattle.terms.specs.Points.{coord};
+ghost use Rattle.terms.specs.Before as words;
 ghost use Rattle.descent.specs.Points.{HasPoint, PointAt};
 
 // The k coordinates of point p in a value of their own, so that many faces can be tested without reading them again. A point lent alone is
@@ -27,4 +28,22 @@ pub fn coordinate(k: usize, points: &[i32], p: usize, d: usize) -> i32
     ensures { λ r. ⌜ r ≡ coord k (now (points .entry)) p d ⌝ }
 {
     points[p * k + d]
+}
+
+// Whether number p comes before number q on dimension d: by coordinate, then by number.
+pub fn before(k: usize, points: &[i32], d: usize, p: u32, q: u32) -> bool
+    requires { ⌜ HasPoint k (now points) p ⌝ }
+    requires { ⌜ HasPoint k (now points) q ⌝ }
+    requires { ⌜ d < k ⌝ }
+    ensures { λ r. ⌜ r ≡ words.before (coord k (now (points .entry))) d p q ⌝ }
+{
+    let x = coordinate(k, points, p as usize, d);
+    let y = coordinate(k, points, q as usize, d);
+    if x < y {
+        return true;
+    }
+    if y < x {
+        return false;
+    }
+    p < q
 }

@@ -8,6 +8,8 @@ pub mod ListOutcome
 pub mod ListPromises
 pub mod ScreenOutcome
 pub mod ScreenPromises
+pub mod ExplainOutcome
+pub mod ExplainPromises
 pub mod PlaceOutcome
 pub mod PlacePromises
 pub mod PointOutcome

@@ -12,6 +12,7 @@ use lib.Ieee.{le}
 use Rattle.terms.specs.declared.Reading.{Reading}
 use Rattle.terms.specs.declared.Making.{Making}
 use Rattle.terms.specs.declared.Screening.{Screening}
+use Rattle.terms.specs.declared.Explaining.{Explaining}
 use Rattle.terms.specs.declared.Placing.{Placing}
 use Rattle.terms.specs.declared.Listing.{Listing}
 use Rattle.terms.specs.Tests.{every}
@@ -24,6 +25,7 @@ use Rattle.terms.specs.BuildCall.{Built}
 use Rattle.terms.specs.CheckCall.{checkAnswer}
 use Rattle.terms.specs.ListCall.{ListedAs}
 use Rattle.terms.specs.ScreenCall.{screenAnswer}
+use Rattle.terms.specs.ExplainCall.{explainAnswer}
 use Rattle.terms.specs.PlaceCall.{placeAnswer}
 use Rattle.theory.specs.Flags.{true-and}
 use Rattle.theory.specs.Counting.{every-append}
@@ -31,7 +33,7 @@ use Rattle.theory.specs.Floors.{IsFloor}
 use Rattle.theory.specs.Values.{coordinate-is-floor, coordinate-rises}
 use Rattle.theory.specs.FirstRefusal.{FirstHeld, if-refused}
 use Rattle.theory.specs.FirstRefusalIsLowest.{Lowest}
-use Rattle.theory.specs.NeverRefused.{never-answered, build-never-five, check-never-five, list-never-five, screen-never-five, place-never-five}
+use Rattle.theory.specs.NeverRefused.{never-answered, build-never-five, check-never-five, list-never-five, screen-never-five, explain-never-five, place-never-five}
 use Rattle.theory.specs.PointCall.{
   point-first,
   point-lowest,
@@ -50,6 +52,7 @@ use Rattle.hornherder.specs.BuildPromises.{build-answers-the-first}
 use Rattle.hornherder.specs.CheckPromises.{check-answers-the-first}
 use Rattle.hornherder.specs.ListPromises.{list-answers-the-first}
 use Rattle.hornherder.specs.ScreenPromises.{screen-answers-the-first}
+use Rattle.hornherder.specs.ExplainPromises.{explain-answers-the-first}
 use Rattle.hornherder.specs.PlacePromises.{place-answers-the-first}
 
 module _ (r : Reading) (place : List ℤ) {a : Making} {x : List ℤ} (e : MadeAs r place a x) where
@@ -132,6 +135,9 @@ module _ (s : Stock) (o : Order) (made : MadePoints (s .points)) where
 
   pub screen-takes-made-points : (f : Faces) {a : Screening} → a ≡ screenAnswer s o f → a .code ≢ 5
   screen-takes-made-points f e = never-answered (omega arith) (screen-never-five s o (made-points-fit made) f) (screen-answers-the-first s o f e)
+
+  pub explain-takes-made-points : (f : Faces) (p : ℕ) {a : Explaining} → a ≡ explainAnswer s o f p → a .code ≢ 5
+  explain-takes-made-points f p e = never-answered (omega arith) (explain-never-five s o (made-points-fit made) f p) (explain-answers-the-first s o f p e)
 
 pub place-takes-made-points : (k : ℕ) (point : List ℤ) (f : Faces) → MadePoints point → {a : Placing} → a ≡ placeAnswer k point f → a .code ≢ 5
 place-takes-made-points k point f made e = never-answered (omega arith) (place-never-five k point f (made-points-fit made)) (place-answers-the-first k point f e)

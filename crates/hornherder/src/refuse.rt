@@ -4,8 +4,10 @@ use crate::ranges::all_marks;
 use crate::ranges::all_within;
 use crate::ranges::all_within_wide;
 use arrange::check::check;
-ghost use Prim.Native.Nat.{_≤_};
+ghost use mathlib.Core.List.{List};
+ghost use Prim.Native.Nat.{ℕ, _≤_};
 ghost use lib.ListN.{length};
+ghost use lib.IntN.{ℤ};
 ghost use Rattle.terms.specs.Lent.{stock, orderOf, faces};
 ghost use Rattle.terms.specs.Refusals.{
   dimensionRefusals,
@@ -18,6 +20,7 @@ ghost use Rattle.terms.specs.Refusals.{
   faceRangeRefusals,
   markRefusals,
   treeRefusals,
+  numberRefusals,
   stockRefusals,
   faceRefusals,
 };
@@ -138,6 +141,17 @@ pub fn tree_refusal(k: usize, n: usize, points: &[i32], order: &[u32]) -> u32
         return 0;
     }
     9
+}
+
+// 13 where the number is not below n.
+pub fn number_refusal(n: usize, number: u32) -> u32
+    ensures { λ r. ⌜ ((k : ℕ) (points : List ℤ) → First (numberRefusals (stock k n points) number) r) ⌝ }
+{
+    let p = number as usize;
+    if n <= p {
+        return 13;
+    }
+    0
 }
 
 // The first of 1, 2 and 3 that holds of the stock, or 0.

@@ -53,7 +53,7 @@ pub extern "C" fn hornherder_screen(
 }
 
 // The first of 1 to 8, 11 and 9 that holds of the screen call's arguments, or 0.
-fn screen_refusal(
+pub fn screen_refusal(
     k: usize,
     n: usize,
     h: usize,

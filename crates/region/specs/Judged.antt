@@ -49,7 +49,7 @@ Judged g b face count Above next = AboveAll g b
 Judged g b face count (Open left) next = StillOpen g b face count next left
 
 -- A box that is wholly above a face and has a point is not wholly below it.
-above-not-below : (g : Region) {b : Box} {point : ℕ → ℤ} → In (g .k) b point → (i : ℕ) → whollyAbove g b i ≡ true → whollyBelow g b i ≡ false
+pub above-not-below : (g : Region) {b : Box} {point : ℕ → ℤ} → In (g .k) b point → (i : ℕ) → whollyAbove g b i ≡ true → whollyBelow g b i ≡ false
 above-not-below g w i e = exclude (wholly-below-point g w i) (wholly-above-point g w i e)
 
 -- "Wholly below at least one face": the lowest is one.

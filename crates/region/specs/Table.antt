@@ -5,12 +5,14 @@ use mathlib.Core.List.{List}
 use Prim.Native.Nat.{ℕ, _+_, _*_, _≤_, _<_}
 use native.Mathlib.Omega.{arith}
 use lib.ListN.{length, getD, set, length-set}
-use lib.IntN.{ℤ, pos, _*ℤ_}
+use lib.IntN.{ℤ, pos, _*ℤ_, _-ℤ_}
 use Rattle.whole.specs.IndexedSum.{sumTo, sum-same}
 use Rattle.terms.specs.Lent.{Faces, facesOf}
 use Rattle.terms.specs.Points.{lone}
 use Rattle.terms.specs.Box.{Box}
 use Rattle.terms.specs.Region.{Region, region, aboveAt, above, inside, whollyAbove, whollyBelow, isSettled, isOpen}
+use Rattle.terms.specs.Margin.{margin}
+use Rattle.terms.specs.Reason.{isBelow}
 use Rattle.theory.specs.AllAndAny.{all-same, any-same}
 use Rattle.theory.specs.Stores.{store-next}
 use Rattle.theory.specs.PointsAlike.{SamePoint}
@@ -120,15 +122,32 @@ module _ {k : ℕ} {normals table : List ℤ} (offsets : List ℤ) (marks : List
       → above byTable i (corner first second (byTable .component i)) ≡ above byFaces i (corner first second (byFaces .component i))
   corner-same i l first second = at-same i (sum-same-corner (t .each i l .same) first second)
 
+  -- Face by face: what a point is above, by how much, and what a box is wholly above and wholly below.
+  module _ (i : ℕ) (l : i < length offsets) where
+    above-tabled : (x : ℕ → ℤ) → above byTable i x ≡ above byFaces i x
+    above-tabled x = at-same i (sum-same-normal (t .each i l .same) x)
+
+    pub is-below-tabled : (x : ℕ → ℤ) → isBelow byTable x i ≡ isBelow byFaces x i
+    is-below-tabled x = ap not (above-tabled x)
+
+    pub margin-tabled : (x : ℕ → ℤ) → margin byTable i x ≡ margin byFaces i x
+    margin-tabled x = ap (λ (sum : ℤ). sum -ℤ getD offsets i (pos 0)) (sum-same-normal (t .each i l .same) x)
+
+    pub wholly-above-tabled : (b : Box) → whollyAbove byTable b i ≡ whollyAbove byFaces b i
+    wholly-above-tabled b = corner-same i l (b .low) (b .high)
+
+    pub wholly-below-tabled : (b : Box) → whollyBelow byTable b i ≡ whollyBelow byFaces b i
+    wholly-below-tabled b = ap not (corner-same i l (b .high) (b .low))
+
   pub inside-tabled : inside byTable ≡ inside byFaces
   unfolding inside
-  inside-tabled = fun-ext (λ x. all-same (length offsets) _ _ (λ i l. at-same i (sum-same-normal (t .each i l .same) x)))
+  inside-tabled = fun-ext (λ x. all-same (length offsets) _ _ (λ i l. above-tabled i l x))
 
   settled-tabled : (b : Box) → isSettled byTable b ≡ isSettled byFaces b
   unfolding isSettled
   settled-tabled b = cc (
-    any-same (length offsets) (whollyBelow byTable b) (whollyBelow byFaces b) (λ i l. ap not (corner-same i l (b .high) (b .low))),
-    all-same (length offsets) (whollyAbove byTable b) (whollyAbove byFaces b) (λ i l. corner-same i l (b .low) (b .high)),
+    any-same (length offsets) (whollyBelow byTable b) (whollyBelow byFaces b) (λ i l. wholly-below-tabled i l b),
+    all-same (length offsets) (whollyAbove byTable b) (whollyAbove byFaces b) (λ i l. wholly-above-tabled i l b),
   )
 
   pub open-tabled : isOpen byTable ≡ isOpen byFaces

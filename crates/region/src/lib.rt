@@ -3,4 +3,5 @@ pub mod boxes;
 pub mod faces;
 pub mod judge;
 pub mod live;
+pub mod lowest;
 pub mod measure;

@@ -3,7 +3,8 @@
 use mathlib.Core.Path.{_≡_, refl, sym}
 use mathlib.Core.Bool.{Bool, true, false}
 use mathlib.Core.List.{List, [], _∷_, map}
-use Prim.Native.Nat.{ℕ, suc}
+use Prim.Native.Nat.{ℕ, zero, suc, _<_}
+use native.Mathlib.Nat.{not-suc-le-zero}
 use native.Mathlib.Omega.{arith}
 use lib.ListN.{length, getD, drop, replicate}
 use lib.IntN.{ℤ, pos, negℤ}
@@ -16,7 +17,10 @@ use Rattle.terms.specs.declared.Making.{Making}
 use Rattle.terms.specs.declared.Listing.{Listing}
 use Rattle.terms.specs.declared.Screening.{Screening}
 use Rattle.terms.specs.declared.Placing.{Placing}
-use Rattle.terms.specs.Tests.{count, every, keep, allTo, anyTo, rising}
+use Rattle.terms.specs.declared.Explaining.{Explaining}
+use Rattle.terms.specs.declared.Reason.{Reason}
+use Rattle.terms.specs.declared.Reason.the-variants.{OutsideWithBranch}
+use Rattle.terms.specs.Tests.{count, every, keep, allTo, anyTo, lowestTo, rising}
 use Rattle.terms.specs.Lent.{Stock, Order, Faces, stock, orderOf, faces}
 use Rattle.terms.specs.Points.{coord, pointOf, slotsOf}
 use Rattle.terms.specs.Before.{before}
@@ -35,6 +39,10 @@ use Rattle.terms.specs.ListCall.{listCode, listAnswer, listAfter}
 use Rattle.terms.specs.Screen.{insideSlots, upToFirst, screenVisits}
 use Rattle.terms.specs.Margin.{leastTo, lowestLeast}
 use Rattle.terms.specs.ScreenCall.{screenCode, screenAnswer}
+use Rattle.terms.specs.Branches.{Branch, branches, shelfBranches, branchAt}
+use Rattle.terms.specs.Reason.{ReasonFor}
+use Rattle.terms.specs.Explain.{ownReason, branchReason, reasonIn, reasonOf}
+use Rattle.terms.specs.ExplainCall.{explainCode, explainAnswer}
 use Rattle.terms.specs.Mirror.{mirror, withFace}
 use Rattle.terms.specs.PlaceCall.{placeCode, placeAnswer}
 
@@ -73,6 +81,8 @@ pub data Row : Type 0 where
   checks : Shelf → (answer : ℕ) → Row
   lists : Shelf → Faces → (list : List ℕ) (answer : Listing) (after : List ℕ) → Row
   screens : Shelf → Faces → Screening → Row
+  explains : Shelf → Faces → (number : ℕ) → Explaining → Row
+  reasons : Shelf → Faces → (number : ℕ) → Reason → Row
   tests : (k : ℕ) (point : List ℤ) → Faces → Placing → Row
   opens : Shelf → Faces → List Bool → Row
   boxed : Shelf → (slot : ℕ) (sides : List (List ℤ)) → Row
@@ -89,6 +99,8 @@ Holds (checks s answer) = checkAnswer (s .lent) (s .arranged) ≡ answer
 Holds (lists s f list answer after) =
     (listAnswer (s .lent) (s .arranged) f list ≡ answer) × (listAfter (s .lent) (s .arranged) f list ≡ after)
 Holds (screens s f answer) = screenAnswer (s .lent) (s .arranged) f ≡ answer
+Holds (explains s f number answer) = explainAnswer (s .lent) (s .arranged) f number ≡ answer
+Holds (reasons s f number why) = ReasonFor (cut s f) (pointOf (s .lent)) (slots s) number why
 Holds (tests k point f answer) = placeAnswer k point f ≡ answer
 Holds (opens s f open-slots) = openSlots (cut s f) (pointOf (s .lent)) (slots s) ≡ open-slots
 Holds (boxed s slot sides) = spans (s .lent .k) (getD (shelfBoxes (s .lent .k) (pointOf (s .lent)) (slots s)) slot (rootBox (coord 0 []) [])) ≡ sides
@@ -130,6 +142,17 @@ findsNone visits = record { code = 0; found = 0; number = 0; visits = visits }
 
 abbrev unscreened : ℕ → Screening
 unscreened c = record { code = c; found = 0; number = 0; visits = 0 }
+
+-- The answer of an explain call that is done: the reason, the slot, and for outside the face and the margin.
+abbrev inside-because : ℕ → ℕ → Explaining
+inside-because reason slot = record { code = 0; reason = reason; face = 0; slot = slot; margin = pos 0 }
+
+abbrev outside-because : ℕ → ℕ → ℕ → ℤ → Explaining
+outside-because reason slot face margin = record { code = 0; reason = reason; face = face; slot = slot; margin = margin }
+
+-- The answer of an explain call that is refused.
+abbrev unexplained : ℕ → Explaining
+unexplained c = record { code = c; reason = 0; face = 0; slot = 0; margin = pos 0 }
 
 -- The answer of a test of one point against faces: inside or not, and the least margin with its lowest-numbered face.
 abbrev measures : ℕ → ℕ → ℤ → Placing
@@ -1086,6 +1109,142 @@ grey-refuses-length = makes (grey notANumber) (pos 7 ∷ pos 8 ∷ pos 9 ∷ pos
 abbrev pub nothing-refuses-length : Row
 nothing-refuses-length = makes nothing [] (unmade 3) []
 
+-- Faces (1, 0), m 2 and (1, 0), m 5: the left branch of A is wholly below the second alone.
+abbrev twoAndFive : Faces
+twoAndFive = closed 2 (pos 1 ∷ pos 0 ∷ pos 1 ∷ pos 0 ∷ []) (pos 2 ∷ pos 5 ∷ [])
+
+-- Faces (1, 0), m 5 and (1, 0), m 6: it is wholly below both.
+abbrev fiveAndSix : Faces
+fiveAndSix = closed 2 (pos 1 ∷ pos 0 ∷ pos 1 ∷ pos 0 ∷ []) (pos 5 ∷ pos 6 ∷ [])
+
+-- Faces (1, 1), m 7 and (1, 1), m 8: it is open.
+abbrev twoDiagonals : Faces
+twoDiagonals = closed 2 (pos 1 ∷ pos 1 ∷ pos 1 ∷ pos 1 ∷ []) (pos 7 ∷ pos 8 ∷ [])
+
+-- Face (1, 1), m 6, open.
+abbrev openSix : Faces
+openSix = faces 1 (pos 1 ∷ pos 1 ∷ []) (pos 6 ∷ []) (1 ∷ [])
+
+-- A with the two faces: number 1 stands in slot 0, whose box x 1..4, y 1..2 is wholly below x + y = 7; its own sum is 6.
+abbrev pub explain-whole-branch-below : Row
+explain-whole-branch-below = explains shelfA twoFaces 1 (outside-because 3 0 0 (minus 1))
+
+-- Number 5 is the node of an open branch, with sum 4.
+abbrev pub explain-own-test-below : Row
+explain-own-test-below = explains shelfA twoFaces 5 (outside-because 4 1 0 (minus 3))
+
+-- Number 2 is the root, which is open, and inside.
+abbrev pub explain-own-test-inside : Row
+explain-own-test-inside = explains shelfA twoFaces 2 (inside-because 2 3)
+
+-- Number 3, (7, 1), is above the first face and below the second.
+abbrev pub explain-own-test-second-face : Row
+explain-own-test-second-face = explains shelfA twoFaces 3 (outside-because 4 4 1 (minus 1))
+
+-- Face (1, 0), m 5: numbers 1 and 0 go out with the left branch, whose node stands in slot 1.
+abbrev pub explain-names-the-node : Row
+explain-names-the-node = explains shelfA rightOfFive 1 (outside-because 3 1 0 (minus 1))
+
+-- The margin is the picture's own.
+abbrev pub explain-own-margin : Row
+explain-own-margin = explains shelfA rightOfFive 0 (outside-because 3 1 0 (minus 4))
+
+-- Number 3 in the right branch, which is open, as its own is.
+abbrev pub explain-open-branch-inside : Row
+explain-open-branch-inside = explains shelfA rightOfFive 3 (inside-because 2 4)
+
+-- m 1: the root is settled, and it is the nearest of all settled branches.
+abbrev pub explain-whole-shelf-inside : Row
+explain-whole-shelf-inside = explains shelfA rightOfOne 1 (inside-because 1 3)
+
+-- m 8: number 3 is below by 1.
+abbrev pub explain-whole-shelf-outside : Row
+explain-whole-shelf-outside = explains shelfA rightOfEight 3 (outside-because 3 3 0 (minus 1))
+
+-- No faces: inside with the root.
+abbrev pub explain-no-faces : Row
+explain-no-faces = explains shelfA noFaces 4 (inside-because 1 3)
+
+-- Number 0, (1, 5), is below both faces, and its branch's box wholly below the second alone.
+abbrev pub explain-face-of-the-box : Row
+explain-face-of-the-box = explains shelfA twoAndFive 0 (outside-because 3 1 1 (minus 4))
+
+-- The lowest of the two that the box is wholly below.
+abbrev pub explain-lowest-face-of-the-box : Row
+explain-lowest-face-of-the-box = explains shelfA fiveAndSix 1 (outside-because 3 1 0 (minus 1))
+
+-- The lowest of the two that the point is below.
+abbrev pub explain-lowest-face-of-the-point : Row
+explain-lowest-face-of-the-point = explains shelfA twoDiagonals 5 (outside-because 4 1 0 (minus 3))
+
+-- Number 0 lies on an open face: below it by 0.
+abbrev pub explain-on-an-open-face : Row
+explain-on-an-open-face = explains shelfA openSix 0 (outside-because 4 2 0 (pos 0))
+
+-- On a closed one it is inside.
+abbrev pub explain-on-a-closed-face : Row
+explain-on-a-closed-face = explains shelfA diagonal 0 (inside-because 2 2)
+
+-- Places from n on are not read.
+abbrev pub explain-longer-order : Row
+explain-longer-order = explains shelfALonger twoFaces 1 (outside-because 3 0 0 (minus 1))
+
+-- 1 before the number.
+abbrev pub explain-refuses-dimension : Row
+explain-refuses-dimension = explains fiveDimensions fromFive 9 (unexplained 1)
+
+-- 2 before the points.
+abbrev pub explain-refuses-n : Row
+explain-refuses-n = explains tooMany fromFive 9 (unexplained 2)
+
+-- 3 before the order.
+abbrev pub explain-refuses-points : Row
+explain-refuses-points = explains wrongPoints fromFive 9 (unexplained 3)
+
+-- 4 for the order.
+abbrev pub explain-refuses-short-order : Row
+explain-refuses-short-order = explains shortOrder fromFive 9 (unexplained 4)
+
+-- 5 before the faces.
+abbrev pub explain-refuses-coordinate : Row
+explain-refuses-coordinate = explains coordinateTooHigh tooManyFaces 9 (unexplained 5)
+
+-- 6 before the number.
+abbrev pub explain-refuses-h : Row
+explain-refuses-h = explains pair tooManyFaces 2 (unexplained 6)
+
+-- 7 before the number.
+abbrev pub explain-refuses-normals : Row
+explain-refuses-normals = explains pair wrongNormals 2 (unexplained 7)
+
+-- 8 before the order.
+abbrev pub explain-refuses-component : Row
+explain-refuses-component = explains pairSwapped componentTooLow 2 (unexplained 8)
+
+-- 11 before the order and the number.
+abbrev pub explain-refuses-mark : Row
+explain-refuses-mark = explains pairSwapped markTwo 2 (unexplained 11)
+
+-- A wrong order is 9 even for such a number.
+abbrev pub explain-refuses-order : Row
+explain-refuses-order = explains pairSwapped fromFive 2 (unexplained 9)
+
+-- A number of n.
+abbrev pub explain-refuses-number : Row
+explain-refuses-number = explains pair fromFive 2 (unexplained 13)
+
+-- The empty shelf has no number.
+abbrev pub explain-refuses-number-of-none : Row
+explain-refuses-number-of-none = explains empty slantedInThree 0 (unexplained 13)
+
+-- By the four cases, m 8: number 1 goes out with the root, though its own branch and the left one are settled too.
+abbrev pub reason-nearest-the-root : Row
+reason-nearest-the-root = reasons shelfA rightOfEight 1 (OutsideWithBranch 3 0 (minus 4))
+
+-- The left branch is wholly below two faces, the root is open: the lowest face.
+abbrev pub reason-lowest-face : Row
+reason-lowest-face = reasons shelfA fiveAndSix 1 (OutsideWithBranch 1 0 (minus 1))
+
 -- ---- the statement
 
 -- The table.
@@ -1236,11 +1395,79 @@ table =
     ∷ colour-refuses-length
     ∷ grey-refuses-length
     ∷ nothing-refuses-length
+    ∷ explain-whole-branch-below
+    ∷ explain-own-test-below
+    ∷ explain-own-test-inside
+    ∷ explain-own-test-second-face
+    ∷ explain-names-the-node
+    ∷ explain-own-margin
+    ∷ explain-open-branch-inside
+    ∷ explain-whole-shelf-inside
+    ∷ explain-whole-shelf-outside
+    ∷ explain-no-faces
+    ∷ explain-face-of-the-box
+    ∷ explain-lowest-face-of-the-box
+    ∷ explain-lowest-face-of-the-point
+    ∷ explain-on-an-open-face
+    ∷ explain-on-a-closed-face
+    ∷ explain-longer-order
+    ∷ explain-refuses-dimension
+    ∷ explain-refuses-n
+    ∷ explain-refuses-points
+    ∷ explain-refuses-short-order
+    ∷ explain-refuses-coordinate
+    ∷ explain-refuses-h
+    ∷ explain-refuses-normals
+    ∷ explain-refuses-component
+    ∷ explain-refuses-mark
+    ∷ explain-refuses-order
+    ∷ explain-refuses-number
+    ∷ explain-refuses-number-of-none
+    ∷ reason-nearest-the-root
+    ∷ reason-lowest-face
     ∷ []
+
+-- The reason of number 1 where the root is settled: no branch is nearer.
+root-below : Holds reason-nearest-the-root
+unfolding lesser greater sumTo allTo anyTo leastFrom greatestFrom rootBox aboveAt isSettled isOpen branches
+root-below = record {
+  slot = 0;
+  stands = record { known = omega arith; number = refl };
+  because = record {
+    nearest = record { known = omega arith; holds = record { from = omega arith; to = omega arith }; nearer-open = λ t l h d. absurd (omega (arith, d)) };
+    face = record { known = omega arith; passes = refl; none-lower = λ e l. absurd (not-suc-le-zero l) };
+    by = refl;
+  };
+}
+
+-- Where the left branch of A is the settled one, the root alone is nearer, and it is open.
+root-open : let bs : List Branch = shelfBranches 2 (pointOf (shelfA .lent)) (slots shelfA) in
+    (t : ℕ) → t < length bs → branchAt bs t .depth < branchAt bs 1 .depth → isOpen (cut shelfA fiveAndSix) (branchAt bs t .box) ≡ true
+unfolding lesser greater sumTo allTo anyTo leastFrom greatestFrom rootBox aboveAt isSettled isOpen branches
+root-open zero l d = absurd (omega arith)
+root-open (suc zero) l d = absurd (omega arith)
+root-open (suc (suc zero)) l d = absurd (omega arith)
+root-open (suc (suc (suc zero))) l d = refl
+root-open (suc (suc (suc (suc zero)))) l d = absurd (omega arith)
+root-open (suc (suc (suc (suc (suc zero))))) l d = absurd (omega arith)
+root-open (suc (suc (suc (suc (suc (suc t)))))) l d = absurd (omega arith)
+
+-- The reason of number 1 there.
+left-below : Holds reason-lowest-face
+unfolding lesser greater sumTo allTo anyTo leastFrom greatestFrom rootBox aboveAt isSettled isOpen branches
+left-below = record {
+  slot = 0;
+  stands = record { known = omega arith; number = refl };
+  because = record {
+    nearest = record { known = omega arith; holds = record { from = omega arith; to = omega arith }; nearer-open = λ t l h d. root-open t l d };
+    face = record { known = omega arith; passes = refl; none-lower = λ e l. absurd (not-suc-le-zero l) };
+    by = refl;
+  };
+}
 
 -- Every row holds of the calls as they are defined.
 pub examples-hold : All table
-unfolding lesser greater sumTo totalTo count every keep allTo anyTo rising before treeRun eachOnce isTree leastFrom greatestFrom rootBox boxes aboveAt inside isSettled isOpen openSlots visits digitsWithin digits S isSquare firstOf buildAnswer checkAnswer listCode listAnswer listAfter insideSlots upToFirst screenVisits leastTo lowestLeast screenCode screenAnswer placeCode placeAnswer ofBits inRange coordinateOf gives pointCode pointAnswer pointAfter
+unfolding lesser greater sumTo totalTo count every keep allTo anyTo rising before treeRun eachOnce isTree leastFrom greatestFrom rootBox boxes aboveAt inside isSettled isOpen openSlots visits digitsWithin digits S isSquare firstOf buildAnswer checkAnswer listCode listAnswer listAfter insideSlots upToFirst screenVisits leastTo lowestLeast screenCode screenAnswer placeCode placeAnswer ofBits inRange coordinateOf gives pointCode pointAnswer pointAfter lowestTo ownReason branchReason reasonIn reasonOf explainCode explainAnswer
 examples-hold =
     example-1-build by built refl refl refl refl
     also example-1-check by refl
@@ -1387,4 +1614,34 @@ examples-hold =
     also colour-refuses-length by (refl, refl)
     also grey-refuses-length by (refl, refl)
     also nothing-refuses-length by (refl, refl)
+    also explain-whole-branch-below by refl
+    also explain-own-test-below by refl
+    also explain-own-test-inside by refl
+    also explain-own-test-second-face by refl
+    also explain-names-the-node by refl
+    also explain-own-margin by refl
+    also explain-open-branch-inside by refl
+    also explain-whole-shelf-inside by refl
+    also explain-whole-shelf-outside by refl
+    also explain-no-faces by refl
+    also explain-face-of-the-box by refl
+    also explain-lowest-face-of-the-box by refl
+    also explain-lowest-face-of-the-point by refl
+    also explain-on-an-open-face by refl
+    also explain-on-a-closed-face by refl
+    also explain-longer-order by refl
+    also explain-refuses-dimension by refl
+    also explain-refuses-n by refl
+    also explain-refuses-points by refl
+    also explain-refuses-short-order by refl
+    also explain-refuses-coordinate by refl
+    also explain-refuses-h by refl
+    also explain-refuses-normals by refl
+    also explain-refuses-component by refl
+    also explain-refuses-mark by refl
+    also explain-refuses-order by refl
+    also explain-refuses-number by refl
+    also explain-refuses-number-of-none by refl
+    also reason-nearest-the-root by root-below
+    also reason-lowest-face by left-below
     also nothing-left

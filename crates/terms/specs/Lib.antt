@@ -10,6 +10,9 @@ pub mod Visits
 pub mod Lists
 pub mod Screen
 pub mod Margin
+pub mod Branches
+pub mod Reason
+pub mod Explain
 pub mod Bound
 pub mod Value
 pub mod Reading
@@ -18,6 +21,7 @@ pub mod BuildCall
 pub mod CheckCall
 pub mod ListCall
 pub mod ScreenCall
+pub mod ExplainCall
 pub mod PlaceCall
 pub mod PointCall
 pub mod Examples

@@ -9,7 +9,7 @@ use lib.Dec.{leb, ltb, eqb}
 use Rattle.terms.specs.declared.Reading.{Reading}
 use Rattle.terms.specs.Tests.{every}
 use Rattle.terms.specs.Lent.{Stock, Order, Faces}
-use Rattle.terms.specs.Points.{isCoordinate}
+use Rattle.terms.specs.Points.{isCoordinate, belongsTo}
 use Rattle.terms.specs.Region.{isComponent, isOffset, isMark}
 use Rattle.terms.specs.Tree.{isShelf}
 use Rattle.terms.specs.Reading.{allInRange}
@@ -73,6 +73,10 @@ treeRefusals s o = record { number = 9; holds = not (isShelf s o) } ∷ []
 -- 12: a value of the reading is not finite, or out of range.
 abbrev pub valueRefusals : Reading → List Refusal
 valueRefusals r = record { number = 12; holds = not (allInRange r) } ∷ []
+
+-- 13: a number that does not belong to the stock.
+abbrev pub numberRefusals : Stock → ℕ → List Refusal
+numberRefusals s p = record { number = 13; holds = not (belongsTo s p) } ∷ []
 
 -- The stock's shape: 1, 2 and 3.
 abbrev pub stockRefusals : Stock → List Refusal

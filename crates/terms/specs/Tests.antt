@@ -1,5 +1,5 @@
 -- Tests put to the items of a list, or to the numbers below a bound.
-use mathlib.Core.Bool.{Bool, true, false, _&&_, _||_}
+use mathlib.Core.Bool.{Bool, true, false, _&&_, _||_, cond}
 use mathlib.Core.List.{List, [], _∷_}
 use Prim.Native.Nat.{ℕ, zero, suc, _+_}
 
@@ -37,6 +37,11 @@ allTo (suc h) test = allTo h test && test h
 unfoldable pub anyTo : ℕ → (ℕ → Bool) → Bool
 anyTo zero test = false
 anyTo (suc h) test = anyTo h test || test h
+
+-- The lowest of the numbers 0 to h - 1 that passes the test; h where none does.
+unfoldable pub lowestTo : ℕ → (ℕ → Bool) → ℕ
+lowestTo zero test = 0
+lowestTo (suc h) test = cond (test 0) 0 (suc (lowestTo h (λ i. test (suc i))))
 
 -- The numbers a, a + 1 and so on, c of them.
 unfoldable pub rising : ℕ → ℕ → List ℕ

@@ -1,4 +1,4 @@
-// The values that the calls share: the box as one value, a reading and what it gives, and the answers.
+// The values that the calls share: the box as one value, a reading and what it gives, a reason, and the answers.
 pub mod axis;
 
 // A box: its least and its greatest coordinate in each dimension. Places from k on mean nothing.
@@ -35,6 +35,15 @@ pub enum Given {
     OutOfRange,
 }
 
+// Why a number is inside or outside: settled with a whole branch, or by its own test. The slot comes first, then, for outside, the face and the margin of
+// the number's point to it.
+pub enum Reason {
+    InsideWithBranch(usize),
+    InsideByItself(usize),
+    OutsideWithBranch(usize, usize, i64),
+    OutsideByItself(usize, usize, i64),
+}
+
 // What a call that makes a point answers: made is 1, or 0 where nothing was measured. A refusal has its number and 0.
 #[repr(C)]
 pub struct Making {
@@ -68,5 +77,16 @@ pub struct Placing {
     pub inside: u8,
     pub measured: u8,
     pub face: u16,
+    pub margin: i64,
+}
+
+// What the explain call answers: the reason is 1 or 2 inside, 3 or 4 outside, 1 and 3 with a whole branch, 2 and 4 by its own test; face and margin are 0
+// for inside. A refusal has its number and zeros.
+#[repr(C)]
+pub struct Explaining {
+    pub code: u32,
+    pub reason: u8,
+    pub face: u8,
+    pub slot: u16,
     pub margin: i64,
 }

@@ -84,3 +84,16 @@ module _ (at : ℕ → ℕ → ℤ) (s : ℕ) where
       go true u a b = inl a
       go false true a b = inr b
       go false false a b = absurd (n (before-total p q a b))
+
+  -- The comparison made by two tests of the coordinates, and of the numbers where neither is less.
+  pub before-less : (p q : ℕ) → ltZ (at p s) (at q s) ≡ true → before at s p q ≡ true
+  before-less p q e = earlier-before p q (inl (omega flags))
+
+  pub before-greater : (p q : ℕ) → ltZ (at q s) (at p s) ≡ true → before at s p q ≡ false
+  before-greater p q e = before-asym q p (before-less q p e)
+
+  pub before-equal : (p q : ℕ) → ltZ (at p s) (at q s) ≡ false → ltZ (at q s) (at p s) ≡ false → before at s p q ≡ ltb p q
+  unfolding before
+  before-equal p q e n =
+      let l : at p s ≤ℤ at q s = omega flags in
+      rw (e, le-leZ l) refl

@@ -40,6 +40,14 @@ pub mod FacesSplit
 pub mod ClosedFaces
 pub mod MirroredFaces
 pub mod Margins
+pub mod LowestThatPasses
+pub mod RunSides
+pub mod BranchesOfARun
+pub mod Way
+pub mod ReasonOnTheWay
+pub mod Reasons
+pub mod ReasonSteps
+pub mod ExplainCall
 pub mod TreeIsDistinct
 pub mod TreeDepth
 pub mod RunTests

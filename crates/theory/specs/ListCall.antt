@@ -3,18 +3,18 @@
 use mathlib.Core.Path.{_≡_, refl, sym, ap, _∙_}
 use mathlib.Core.Logic.{_≢_}
 use mathlib.Core.Bool.{true}
-use mathlib.Core.List.{List, _++_}
+use mathlib.Core.List.{List, _++_, reverse}
 use Prim.Native.Nat.{ℕ, _≤_}
 use native.Mathlib.Omega.{arith}
 use lib.ListN.{length, take, drop, length-append, length-drop}
-use lib.Seq.{take-at, drop-at, length-take-le}
+use lib.Seq.{take-at, take-append-le, drop-at, length-take-le}
 use lib.Dec.{ltb}
 use Rattle.terms.specs.declared.Listing.{Listing}
 use Rattle.terms.specs.Lent.{Stock, Order, Faces}
 use Rattle.terms.specs.Points.{pointOf, slotsOf}
 use Rattle.terms.specs.Tree.{shelfRun, isShelf}
 use Rattle.terms.specs.Region.{region}
-use Rattle.terms.specs.Lists.{places}
+use Rattle.terms.specs.Lists.{insides, outsides, places}
 use Rattle.terms.specs.Refusals.{Refusal, stockRefusals, roomRefusals, coordinateRefusals, faceRefusals, treeRefusals}
 use Rattle.terms.specs.ListCall.{listRefusals, listCode, listAnswer, listAfter, ListedAs}
 use Rattle.theory.specs.Tested.{TestedPoints, TestedFaces}
@@ -155,6 +155,15 @@ module _ (s : Stock) (o : Order) (f : Faces) (list : List ℕ) where
     -- "The list buffer, places 0 to n-1": the two lists.
     pub list-front : take (slotsOf s) (listAfter s o f list) ≡ both
     list-front = rw filled (take-at both (drop (slotsOf s) list) (slotsOf s) size)
+
+    -- The first of them, as many as are counted inside, are the inside list.
+    pub list-inside : take (listAnswer s o f list .inside) (listAfter s o f list) ≡ insides (region (s .k) f) (pointOf s) (shelfRun s o)
+    unfolding listAnswer
+    list-inside =
+        let ins : List ℕ = insides (region (s .k) f) (pointOf s) (shelfRun s o) in
+        let out : List ℕ = reverse (outsides (region (s .k) f) (pointOf s) (shelfRun s o)) in
+        rw (filled, done)
+        (take-append-le (length ins) both (drop (slotsOf s) list) (omega (arith, length-append ins out)) ∙ take-at ins out (length ins) refl)
 
     -- "Places from n on are neither read nor written."
     pub list-later : drop (slotsOf s) (listAfter s o f list) ≡ drop (slotsOf s) list

@@ -219,8 +219,11 @@ module _ (g : Region) (x : ℕ → ℤ) where
 -- ---- points alike
 -- Two points with the same first k coordinates have the same margins, so the same least one.
 module _ (g : Region) {x y : ℕ → ℤ} (s : SamePoint (g .k) x y) where
+  pub margin-same-point : (i : ℕ) → margin g i x ≡ margin g i y
+  margin-same-point i = ap (λ (v : ℤ). v -ℤ g .offset i) (sum-same-point s (g .component i))
+
   margins-same-point : _≡_ {A = ℕ → ℤ} (λ i. margin g i x) (λ i. margin g i y)
-  margins-same-point = fun-ext (λ i. ap (λ (v : ℤ). v -ℤ g .offset i) (sum-same-point s (g .component i)))
+  margins-same-point = fun-ext margin-same-point
 
   pub least-margin-same-point : leastMargin g x ≡ leastMargin g y
   least-margin-same-point = ap (leastTo (g .h)) margins-same-point

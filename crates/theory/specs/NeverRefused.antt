@@ -17,6 +17,7 @@ use Rattle.terms.specs.BuildCall.{buildRefusals}
 use Rattle.terms.specs.CheckCall.{checkRefusals}
 use Rattle.terms.specs.ListCall.{listRefusals}
 use Rattle.terms.specs.ScreenCall.{screenRefusals}
+use Rattle.terms.specs.ExplainCall.{explainRefusals}
 use Rattle.terms.specs.PlaceCall.{placeRefusals}
 use Rattle.theory.specs.Flags.{clash, and-true, true-and, not-true}
 use Rattle.theory.specs.FirstRefusal.{none, FirstHeld}
@@ -57,6 +58,10 @@ module _ (s : Stock) (o : Order) (fit : every isCoordinate (s .points) ≡ true)
   pub screen-never-five : (f : Faces) → neverHolds 5 (screenRefusals s o f) ≡ true
   unfolding neverHolds
   screen-never-five f = rw fit
+
+  pub explain-never-five : (f : Faces) (p : ℕ) → neverHolds 5 (explainRefusals s o f p) ≡ true
+  unfolding neverHolds
+  explain-never-five f p = rw fit
 
 pub place-never-five : (k : ℕ) (point : List ℤ) (f : Faces) → every isCoordinate point ≡ true → neverHolds 5 (placeRefusals k point f) ≡ true
 unfolding neverHolds

@@ -9,7 +9,7 @@ use lib.Dec.{leb, eqb}
 use borrow.Author.Tests.{leb-true, ltb-true, ltb-false, le-ltb, eqb-true, eq-eqb}
 use Rattle.terms.specs.Tests.{every}
 use Rattle.terms.specs.Lent.{Stock, Order, Faces}
-use Rattle.terms.specs.Points.{isCoordinate}
+use Rattle.terms.specs.Points.{isCoordinate, belongsTo}
 use Rattle.terms.specs.Region.{isComponent, isOffset, isMark}
 use Rattle.terms.specs.Tree.{isShelf}
 use Rattle.terms.specs.Refusals.{
@@ -24,6 +24,7 @@ use Rattle.terms.specs.Refusals.{
   faceRangeRefusals,
   markRefusals,
   treeRefusals,
+  numberRefusals,
   stockRefusals,
   faceRefusals,
 }
@@ -142,3 +143,6 @@ faces-passed k f w =
 
 pub tree-passed : (s : Stock) (o : Order) → Passed (treeRefusals s o) → isShelf s o ≡ true
 tree-passed s o w = not-false (isShelf s o) (w .fails 0)
+
+pub number-passed : (s : Stock) (p : ℕ) → Passed (numberRefusals s p) → belongsTo s p ≡ true
+number-passed s p w = not-false (belongsTo s p) (w .fails 0)

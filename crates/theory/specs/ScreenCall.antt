@@ -27,7 +27,7 @@ use Rattle.terms.specs.ScreenCall.{screenRefusals, screenCode, screenAnswer}
 use Rattle.theory.specs.Tested.{TestedPoints, TestedFaces}
 use Rattle.theory.specs.FirstInside.{up-none, count-take-le}
 use Rattle.theory.specs.BoxFuel.{boxes-length}
-use Rattle.theory.specs.FirstRefusal.{FirstHeld, noZero, first-held, passed-parts}
+use Rattle.theory.specs.FirstRefusal.{Passed, FirstHeld, noZero, first-held, passed-parts}
 use Rattle.theory.specs.RefusalsPassed.{faces-passed, tree-passed}
 use Rattle.theory.specs.BuildCall.{build-tests-passed}
 use Rattle.theory.specs.CheckCall.{room-same}
@@ -39,6 +39,15 @@ pub record ScreenPassed (s : Stock) (o : Order) (f : Faces) : Type 0 where
   pub faced : TestedFaces (s .k) f
   pub shelf : isShelf s o ≡ true
 
+pub screen-tests-passed : (s : Stock) (o : Order) (f : Faces) → Passed (screenRefusals s o f) → ScreenPassed s o f
+screen-tests-passed s o f w =
+    let F : List Refusal = faceRefusals (s .k) f in
+    let T : List Refusal = treeRefusals s o in
+    let a = passed-parts (buildRefusals s o) (F ++ T) w in
+    let b = passed-parts F T (a .1) in
+    let c = build-tests-passed s o (a .0) in
+    record { tested = c .tested; room = c .room; faced = faces-passed (s .k) f (b .0); shelf = tree-passed s o (b .1) }
+
 module _ (s : Stock) (o : Order) (f : Faces) where
   -- "Refusals: 1 to 9 as there", and 11 "tested after 8": the first in the order of testing; and 0 where none holds.
   pub screen-first : FirstHeld (screenRefusals s o f) (screenCode s o f)
@@ -46,13 +55,7 @@ module _ (s : Stock) (o : Order) (f : Faces) where
   screen-first = first-held (screenRefusals s o f) refl
 
   pub screen-passed : screenCode s o f ≡ 0 → ScreenPassed s o f
-  screen-passed e =
-      let F : List Refusal = faceRefusals (s .k) f in
-      let T : List Refusal = treeRefusals s o in
-      let a = passed-parts (buildRefusals s o) (F ++ T) (screen-first .done e) in
-      let b = passed-parts F T (a .1) in
-      let c = build-tests-passed s o (a .0) in
-      record { tested = c .tested; room = c .room; faced = faces-passed (s .k) f (b .0); shelf = tree-passed s o (b .1) }
+  screen-passed e = screen-tests-passed s o f (screen-first .done e)
 
   -- "It takes the list call's arguments without the list buffer": with room in a buffer both are accepted or refused alike.
   pub screen-code-is-list-code : (list : List ℕ) → slotsOf s ≤ length list → screenCode s o f ≡ listCode s o f list

@@ -1,0 +1,124 @@
+-- The demands, read off the explain call's contract, and how its answer stands to the list call's. Each follows from `theory` in a few lines.
+use mathlib.Core.Path.{_≡_, refl, sym, ap, _∙_}
+use mathlib.Core.Logic.{_≢_}
+use mathlib.Core.Bool.{Bool, true, false}
+use mathlib.Core.List.{List, _++_, reverse}
+use Prim.Native.Nat.{ℕ, zero, suc, _≤_, _<_}
+use native.Mathlib.Omega.{arith}
+use lib.ListN.{length, getD, take, drop, replicate, length-append}
+use lib.Seq.{take-at, take-append-le}
+use lib.IntN.{pos}
+use lib.Dec.{eqb}
+use Rattle.terms.specs.declared.Explaining.{Explaining}
+use Rattle.terms.specs.declared.Listing.{Listing}
+use Rattle.terms.specs.declared.Reason.{Reason}
+use Rattle.terms.specs.declared.Reason.the-variants.{InsideWithBranch, InsideByItself, OutsideWithBranch, OutsideByItself}
+use Rattle.terms.specs.Tests.{bit, count}
+use Rattle.terms.specs.Lent.{Stock, Order, Faces}
+use Rattle.terms.specs.Points.{pointOf, belongsTo, slotsOf}
+use Rattle.terms.specs.Tree.{shelfRun}
+use Rattle.terms.specs.Region.{Region, region, inside}
+use Rattle.terms.specs.Visits.{openSlots}
+use Rattle.terms.specs.Lists.{insides, outsides}
+use Rattle.terms.specs.Reason.{StandsIn, ReasonFor}
+use Rattle.terms.specs.Explain.{reasonOf}
+use Rattle.terms.specs.ListCall.{listCode, listAnswer, listAfter, ListedAs}
+use Rattle.terms.specs.ExplainCall.{explainRefusals, explaining, explainCode, explainAnswer}
+use Rattle.theory.specs.FirstRefusal.{FirstHeld, if-code, if-refused}
+use Rattle.theory.specs.EachNumberOnce.{stock-under}
+use Rattle.theory.specs.ListCall.{listed-code, list-inside}
+use Rattle.theory.specs.Reasons.{tree-run, reason-because, because-inside, because-visited}
+use Rattle.theory.specs.ExplainCall.{
+  insideNumber,
+  itselfNumber,
+  inside-number,
+  itself-number,
+  listed-inside,
+  ExplainPassed,
+  explain-first,
+  explain-passed,
+  explain-code-is-list-code,
+  explain-reads,
+  picture-reason,
+  picture-reason-only,
+}
+
+-- A reason is answered with the number 0.
+no-code : (why : Reason) → explaining why .code ≡ 0
+no-code (InsideWithBranch s) = refl
+no-code (InsideByItself s) = refl
+no-code (OutsideWithBranch s f m) = refl
+no-code (OutsideByItself s f m) = refl
+
+module _ (s : Stock) (o : Order) (f : Faces) (p : ℕ) {b : Explaining} (e : b ≡ explainAnswer s o f p) where
+  -- Two outcomes that satisfy the contract are equal.
+  pub explain-once : {c : Explaining} → c ≡ explainAnswer s o f p → b ≡ c
+  explain-once g = e ∙ sym g
+
+  explain-number : b .code ≡ explainCode s o f p
+  unfolding explainAnswer
+  explain-number = ap (λ (r : Explaining). r .code) e ∙ if-code (λ (r : Explaining). r .code) (explainCode s o f p) _ _ (no-code (reasonOf (region (s .k) f) (pointOf s) (shelfRun s o) p)) refl
+
+  -- The number is the first refusal that holds in the order of testing, and 0 where none does.
+  pub explain-answers-the-first : FirstHeld (explainRefusals s o f p) (b .code)
+  explain-answers-the-first = rw explain-number (explain-first s o f p)
+
+  -- Of a refusal every other number is 0.
+  pub explain-refused-says-no-more : b .code ≢ 0 → b ≡ record { code = b .code; reason = 0; face = 0; slot = 0; margin = pos 0 }
+  unfolding explainAnswer
+  explain-refused-says-no-more m =
+      let n : explainCode s o f p ≢ 0 = λ z. m (explain-number ∙ z) in
+      e ∙ if-refused (explainCode s o f p) _ _ n ∙ rw (← explain-number) refl
+
+  -- Places from n on are not read.
+  pub explain-reads-n-slots : (q : Order) → shelfRun s o ≡ shelfRun s q → {c : Explaining} → c ≡ explainAnswer s q f p → b ≡ c
+  explain-reads-n-slots q same g = e ∙ explain-reads s o q f p same ∙ sym g
+
+  module _ (done : b .code ≡ 0) where
+    abbrev g : Region
+    g = region (s .k) f
+
+    abbrev why : Reason
+    why = reasonOf g (pointOf s) (shelfRun s o) p
+
+    accepted : ExplainPassed s o f p
+    accepted = explain-passed s o f p (sym explain-number ∙ done)
+
+    answered : b ≡ explaining why
+    unfolding explainAnswer
+    answered = e ∙ rw (sym explain-number ∙ done) refl
+
+    -- "Prove that the reason given is the true one": what is answered is the reason of the picture, so that every picture of an accepted call has one,
+    pub explain-gives-the-reason : (r : Reason) × ReasonFor g (pointOf s) (shelfRun s o) p r × (b ≡ explaining r)
+    explain-gives-the-reason = (why, picture-reason s o f p accepted, answered)
+
+    -- "and is the only one these rules allow."
+    pub explain-gives-the-only-reason : (r : Reason) → ReasonFor g (pointOf s) (shelfRun s o) p r → b ≡ explaining r
+    explain-gives-the-only-reason r z = answered ∙ ap explaining (sym (picture-reason-only s o f p accepted r z))
+
+    -- The reason is 1 or 2 exactly where the picture's point is inside.
+    pub explain-says-inside : insideNumber (b .reason) ≡ inside g (pointOf s p)
+    explain-says-inside =
+        let r = picture-reason s o f p accepted in
+        let tree = tree-run g (pointOf s) (belongsTo s) (s .n) (shelfRun s o) (accepted .screened .shelf) in
+        ap (λ (a : Explaining). insideNumber (a .reason)) answered ∙ inside-number why ∙ because-inside g (pointOf s) (shelfRun s o) tree (r .stands) why (r .because)
+
+    -- It is 2 or 4 exactly where the picture's own slot is open, that is, one of the visits.
+    pub explain-says-itself : (i : ℕ) → StandsIn (shelfRun s o) p i → itselfNumber (b .reason) ≡ getD (openSlots g (pointOf s) (shelfRun s o)) i false
+    explain-says-itself i st =
+        let tree = tree-run g (pointOf s) (belongsTo s) (s .n) (shelfRun s o) (accepted .screened .shelf) in
+        ap (λ (a : Explaining). itselfNumber (a .reason)) answered ∙ itself-number why ∙ because-visited g (pointOf s) (shelfRun s o) tree st why (reason-because g (pointOf s) (shelfRun s o) tree st)
+
+  -- Beside the list call with the same arguments and a list buffer with room.
+  module _ {list : List ℕ} (room : slotsOf s ≤ length list) {a : Listing} {x : List ℕ} (l : ListedAs s o f list a x) where
+    -- A picture is explained where the list call is done, and refused with its number where it is not.
+    pub explain-code-is-the-list-call-s : belongsTo s p ≡ true → b .code ≡ a .code
+    explain-code-is-the-list-call-s belongs = explain-number ∙ explain-code-is-list-code s o f p belongs list room ∙ sym (listed-code s o f list l)
+
+    -- The reason is 1 or 2 exactly where the list call lists the picture inside: once where it does, and else never.
+    pub explained-inside-where-listed : b .code ≡ 0 → count (eqb p) (take (a .inside) x) ≡ bit (insideNumber (b .reason))
+    explained-inside-where-listed done =
+        let w = accepted done in
+        let listed : listCode s o f list ≡ 0 = sym (explain-code-is-list-code s o f p (w .belongs) list room) ∙ sym explain-number ∙ done in
+        rw (l .answered, l .written, list-inside s o f list listed, explain-says-inside done)
+        (listed-inside (region (s .k) f) (pointOf s) (belongsTo s) (s .n) (shelfRun s o) (w .screened .shelf) p (stock-under s p (w .belongs)) (w .belongs))
