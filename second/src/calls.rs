@@ -1,6 +1,7 @@
-//! The nine calls, and functions that look at the visits behind a list.
+//! The ten calls, and functions that look at the visits behind a list.
 
 use crate::found::{found_number, visits_of_screen};
+use crate::joined::{counts_of_regions, faces_of_regions, places_of_regions};
 use crate::lists::{inside_and_outside, places};
 use crate::margin::{face_of_margin, margin};
 use crate::order::built_order;
@@ -199,6 +200,45 @@ pub fn explain(
         slot: why.slot as u16,
         margin: margin_to_face(&shelf, &faces, number, &why).unwrap_or(0) as i64,
     }
+}
+
+/// Writes the places of all regions into `lists`, n for each, and their counts
+/// (inside, outside, visits) into `counts`, three for each, region after region.
+#[allow(clippy::too_many_arguments)]
+pub fn list_regions(
+    k: usize,
+    n: usize,
+    regions: usize,
+    points: &[i32],
+    order: &[u32],
+    face_counts: &[u32],
+    normals: &[i32],
+    offsets: &[i64],
+    marks: &[u8],
+    lists: &mut [u32],
+    counts: &mut [u32],
+) -> u32 {
+    let code = refusals::of_list_regions(
+        k,
+        n,
+        regions,
+        points,
+        order,
+        face_counts,
+        normals,
+        offsets,
+        marks,
+        lists.len(),
+        counts.len(),
+    );
+    if code == 0 {
+        let slots = &order[..n];
+        let shelf = Shelf { k, points, slots };
+        let all = faces_of_regions(k, face_counts, normals, offsets, marks);
+        lists[..regions * n].copy_from_slice(&places_of_regions(&shelf, &all));
+        counts[..regions * 3].copy_from_slice(&counts_of_regions(&shelf, &all));
+    }
+    code
 }
 
 /// Writes the point made from a colour of three values into the three places.

@@ -5,6 +5,7 @@ pub mod bound;
 pub mod calls;
 pub mod exact;
 pub mod found;
+pub mod joined;
 pub mod lists;
 pub mod margin;
 pub mod order;
@@ -18,8 +19,8 @@ pub mod visits;
 
 pub use bound::{binary_digits, is_square, s};
 pub use calls::{
-    build, check, explain, list, open_slots, place, point_from_colour, point_from_grey,
-    point_from_nothing, screen, visits_of_face, visits_of_region, Explaining, Listing, Making,
-    Placing, Screening,
+    build, check, explain, list, list_regions, open_slots, place, point_from_colour,
+    point_from_grey, point_from_nothing, screen, visits_of_face, visits_of_region, Explaining,
+    Listing, Making, Placing, Screening,
 };
 pub use text::shelf_text;

@@ -1,5 +1,6 @@
 //! The table of numbers returned, test by test.
 
+use crate::joined::total_of_faces;
 use crate::order::is_tree;
 use crate::reading::{number_of_value, values, Reading};
 use crate::region::{CLOSED, OPEN};
@@ -34,6 +35,11 @@ pub fn shorter(length: usize, n: usize) -> bool {
     length < n
 }
 
+/// Number 4 of several regions: a buffer is shorter than `each` places a region.
+pub fn shorter_for_each(length: usize, regions: usize, each: usize) -> bool {
+    (length as u128) < regions as u128 * each as u128
+}
+
 /// Number 5: a coordinate is not -32,768 to 32,767.
 pub fn coordinate_wrong(points: &[i32]) -> bool {
     points.iter().any(|x| !(-32_768..=32_767).contains(x))
@@ -42,6 +48,12 @@ pub fn coordinate_wrong(points: &[i32]) -> bool {
 /// Number 6: h is over 32.
 pub fn too_many_faces(h: usize) -> bool {
     h > 32
+}
+
+/// Number 6 of several regions: a face count is over 32, each asked by itself.
+pub fn too_many_faces_in_one(face_counts: &[u32]) -> bool {
+    let mut each = face_counts.iter().map(|&count| count as usize);
+    each.any(too_many_faces)
 }
 
 /// Number 7: the normals are not k times h long, or the offsets not h.
@@ -73,6 +85,12 @@ pub fn value_wrong(reading: Reading) -> bool {
 /// Number 13: the number asked about is n or more.
 pub fn number_wrong(n: usize, number: u32) -> bool {
     number as usize >= n
+}
+
+/// Number 14: the region count is not 1 to 64, or the face counts are not as many
+/// as the regions.
+pub fn regions_wrong(regions: usize, face_counts: &[u32]) -> bool {
+    !(1..=64).contains(&regions) || face_counts.len() != regions
 }
 
 /// What build returns: tests 1 to 5.
@@ -122,6 +140,43 @@ pub fn of_list(
         (7, &|| faces_not_long(k, h, normals, offsets)),
         (8, &|| face_wrong(normals, offsets)),
         (11, &|| marks_wrong(h, marks)),
+        (9, &|| !is_tree(k, n, points, order)),
+    ])
+}
+
+/// What the list of several regions returns: tests 1 to 3, then 14, then 4 to 8,
+/// then 11, then 9. Of the two buffers only their lengths count. Tests 7, 8 and 11
+/// are of the joined slices; the face counts are added up only after test 6.
+#[allow(clippy::too_many_arguments)]
+pub fn of_list_regions(
+    k: usize,
+    n: usize,
+    regions: usize,
+    points: &[i32],
+    order: &[u32],
+    face_counts: &[u32],
+    normals: &[i32],
+    offsets: &[i64],
+    marks: &[u8],
+    lists_length: usize,
+    counts_length: usize,
+) -> u32 {
+    let total = || total_of_faces(face_counts);
+    first_held(&[
+        (1, &|| dimension_wrong(k)),
+        (2, &|| too_many_points(n)),
+        (3, &|| not_times_long(points.len(), k, n)),
+        (14, &|| regions_wrong(regions, face_counts)),
+        (4, &|| {
+            shorter(order.len(), n)
+                || shorter_for_each(lists_length, regions, n)
+                || shorter_for_each(counts_length, regions, 3)
+        }),
+        (5, &|| coordinate_wrong(points)),
+        (6, &|| too_many_faces_in_one(face_counts)),
+        (7, &|| faces_not_long(k, total(), normals, offsets)),
+        (8, &|| face_wrong(normals, offsets)),
+        (11, &|| marks_wrong(total(), marks)),
         (9, &|| !is_tree(k, n, points, order)),
     ])
 }
