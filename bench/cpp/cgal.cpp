@@ -81,6 +81,32 @@ template <int K> struct Numbers {
     void operator=(const Point<K> &point) { *next++ = point.number; }
 };
 
+// Marks the number of each point that is put to it.
+template <int K> struct Marks {
+    using iterator_category = std::output_iterator_tag;
+    using value_type = void;
+    using difference_type = void;
+    using pointer = void;
+    using reference = void;
+    uint8_t *marks;
+    Marks &operator*() { return *this; }
+    Marks &operator++() { return *this; }
+    Marks &operator++(int) { return *this; }
+    void operator=(const Point<K> &point) { marks[point.number] = 1; }
+};
+
+// Writes both lists of the numbers in this order: those that are marked from the front, the others from the back; and takes the marks away.
+size_t both_lists(size_t n, const uint32_t *order, uint8_t *marks, uint32_t *list) {
+    size_t front = 0, back = n;
+    for (size_t slot = 0; slot < n; slot++) {
+        uint32_t number = order[slot];
+        if (marks[number]) list[front++] = number;
+        else list[--back] = number;
+    }
+    for (size_t place = 0; place < front; place++) marks[list[place]] = 0;
+    return front;
+}
+
 } // namespace
 
 void *cgal_points(size_t k, size_t n, const int32_t *points) {
@@ -110,6 +136,15 @@ size_t cgal_list(const void *tree, size_t k, size_t h, const int32_t *normals, c
         Region<K> region(h, normals, offsets);
         return static_cast<const Tree<K> *>(tree)->search(Numbers<K>{found}, region).next - found;
     });
+}
+
+size_t cgal_list_both(const void *tree, size_t k, size_t n, size_t h, const uint32_t *order, const int32_t *normals,
+                      const int64_t *offsets, uint8_t *marks, uint32_t *list) {
+    with_dimension(k, [&](auto dimension) {
+        constexpr int K = dimension();
+        static_cast<const Tree<K> *>(tree)->search(Marks<K>{marks}, Region<K>(h, normals, offsets));
+    });
+    return both_lists(n, order, marks, list);
 }
 
 size_t cgal_any(const void *tree, size_t k, size_t h, const int32_t *normals, const int64_t *offsets, uint32_t *found) {

@@ -18,6 +18,10 @@ void *cgal_points(size_t k, size_t n, const int32_t *points);
 void *cgal_build(const void *points, size_t k);
 // Writes the numbers of the points inside the region in the tree's own order, and returns how many.
 size_t cgal_list(const void *tree, size_t k, size_t h, const int32_t *normals, const int64_t *offsets, uint32_t *found);
+// Writes both lists as the library does, in shelf order, and returns how many are inside: it marks those inside, and then goes over the order
+// once. The marks, one for each number, are 0 before and after.
+size_t cgal_list_both(const void *tree, size_t k, size_t n, size_t h, const uint32_t *order, const int32_t *normals,
+                      const int64_t *offsets, uint8_t *marks, uint32_t *list);
 // Writes the number of one point inside the region, whichever the tree comes to first, and returns how many it wrote: 1 or 0.
 size_t cgal_any(const void *tree, size_t k, size_t h, const int32_t *normals, const int64_t *offsets, uint32_t *found);
 // Gives a tree or the points back.

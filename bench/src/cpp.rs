@@ -13,6 +13,7 @@ extern "C" {
     fn cgal_points(k: usize, n: usize, points: *const i32) -> *mut c_void;
     fn cgal_build(points: *const c_void, k: usize) -> *mut c_void;
     fn cgal_list(tree: *const c_void, k: usize, h: usize, normals: *const i32, offsets: *const i64, found: *mut u32) -> usize;
+    fn cgal_list_both(tree: *const c_void, k: usize, n: usize, h: usize, order: *const u32, normals: *const i32, offsets: *const i64, marks: *mut u8, list: *mut u32) -> usize;
     fn cgal_any(tree: *const c_void, k: usize, h: usize, normals: *const i32, offsets: *const i64, found: *mut u32) -> usize;
     fn cgal_free_tree(tree: *mut c_void, k: usize);
     fn cgal_free_points(points: *mut c_void, k: usize);
@@ -96,6 +97,21 @@ impl CgalTree {
         unsafe {
             let found = found.as_mut_ptr();
             cgal_list(self.tree, self.k, region.h, normals, least, found)
+        }
+    }
+
+    /// Writes both lists as the library does, in the order of the slots, and gives how many are inside. There must be a mark for each number,
+    /// which is 0 before and after.
+    #[rustfmt::skip]
+    pub fn list_both(&self, order: &[u32], region: &Region, marks: &mut [u8], list: &mut [u32]) -> usize {
+        let n = order.len();
+        assert!(marks.len() == n && list.len() == n);
+        // SAFETY: the faces are as long as h and k say, the order holds numbers of the tree, and marks and list are n long.
+        unsafe {
+            cgal_list_both(
+                self.tree, self.k, n, region.h, order.as_ptr(), region.normals.as_ptr(),
+                region.least.as_ptr(), marks.as_mut_ptr(), list.as_mut_ptr(),
+            )
         }
     }
 

@@ -1,6 +1,6 @@
 //! The library's calls, made by the thin layer of its Rust crate.
 
-use crate::region::Region;
+use crate::region::{Joined, Region};
 use crate::stock::Stock;
 use hornherder::raw;
 
@@ -21,6 +21,14 @@ pub fn check(stock: &Stock, order: &[u32]) -> u32 {
 pub fn list(stock: &Stock, order: &[u32], region: &Region, list: &mut [u32]) -> Listing {
     let (normals, offsets, marks) = (&region.normals, &region.offsets, &region.marks);
     raw::list(stock.k, stock.n, region.h, &stock.points, order, normals, offsets, marks, list)
+}
+
+/// Lists the numbers inside and outside each of several regions.
+#[rustfmt::skip]
+pub fn list_regions(stock: &Stock, order: &[u32], joined: &Joined, lists: &mut [u32], counts: &mut [u32]) -> u32 {
+    let (face_counts, normals) = (&joined.face_counts, &joined.normals);
+    let (offsets, marks) = (&joined.offsets, &joined.marks);
+    raw::list_regions(stock.k, stock.n, face_counts.len(), &stock.points, order, face_counts, normals, offsets, marks, lists, counts)
 }
 
 /// Finds the first number inside the region.

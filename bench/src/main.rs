@@ -13,6 +13,7 @@ mod json;
 mod library;
 mod lists;
 mod measured;
+mod mornings;
 mod numbers;
 mod plan;
 mod plot;

@@ -10,11 +10,15 @@ pub struct Asked {
     pub visits: u32,
 }
 
+/// How many regions a call for several of them is measured with.
+pub const REGIONS: usize = 64;
+
 /// The call that a workload is for; a build also has the check.
 #[derive(Clone, Copy)]
 pub enum Call {
     Build,
     List,
+    Regions,
     Screen,
     Explain,
     Colours,
@@ -36,18 +40,28 @@ impl Measured {
         matches!(self.call, Call::List)
     }
 
+    /// Whether the workload is several regions in one call.
+    pub fn is_regions(&self) -> bool {
+        matches!(self.call, Call::Regions)
+    }
+
     /// Whether the workload is a build.
     pub fn is_build(&self) -> bool {
         matches!(self.call, Call::Build)
     }
 
-    /// The time of the contender of this name. A walk, or a way, is what its call takes beyond the check call.
+    /// The time of the contender of this name. A walk, or a way, is what its call takes beyond the check call; a region, or the walk alone,
+    /// what it takes beyond the check call and the root box.
     pub fn time(&self, name: &str) -> f64 {
         let beyond_check = |call: &str| (self.time(call) - self.time("check")).max(0.0);
+        let of_each = |micros: f64| micros / REGIONS as f64;
+        let shared = || self.time("check") + self.time("root box by hand");
         match name {
             "walk" => return beyond_check("list"),
             "screen's walk" => return beyond_check("screen"),
             "explain's way" => return beyond_check("explain"),
+            "a region" => return of_each(self.time("regions") - shared()),
+            "walk alone" => return of_each(self.time("64 list calls")) - shared(),
             _ => {}
         }
         let found = self.times.iter().find(|(known, _)| *known == name);

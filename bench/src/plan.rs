@@ -5,8 +5,9 @@ use crate::colours;
 use crate::explains;
 use crate::hard::{AGAINST_PIVOTS, HARD};
 use crate::lists::{self, Shelf};
-use crate::measured::Measured;
-use crate::region::{emptied, first_slot, one_plane, slanted, square, Region};
+use crate::measured::{Measured, REGIONS};
+use crate::mornings;
+use crate::region::{emptied, first_slot, morning, one_plane, slanted, square, Region};
 use crate::screens;
 use crate::stock::{Kind, Stock, CLUSTERED, ON_A_PLANE, ORDINARY, SPREAD};
 use crate::targets::{DIMENSION, FULL, SMALLER};
@@ -27,7 +28,7 @@ impl Plan {
         }
     }
 
-    /// Every workload: the sizes, the screens, the explain call, the colours, the dimensions, the other kinds, the hard ones.
+    /// Every workload: the sizes, several regions in one call, the screens, the explain call, the colours, the dimensions, the other kinds, the hard ones.
     pub fn measure(&self) -> Vec<Measured> {
         let mut out = Vec::new();
         for n in self.sizes() {
@@ -35,6 +36,7 @@ impl Plan {
             let regions = if few { eight_faces } else { all_regions };
             out.extend(self.shelf(CLUSTERED, DIMENSION, n, regions));
         }
+        out.extend(self.mornings());
         out.extend(self.screens());
         out.push(self.explains());
         out.push(colours::measure(self.seed, 2 * self.rounds));
@@ -54,6 +56,19 @@ impl Plan {
             out.extend(self.shelf(kind, DIMENSION, FULL, no_region));
         }
         out
+    }
+
+    /// Several regions in one call, on the shelf that the targets speak of: of every number of faces and every share.
+    fn mornings(&self) -> Vec<Measured> {
+        eprintln!("measuring several regions in one call");
+        let stock = CLUSTERED.stock(DIMENSION, FULL, self.seed);
+        let order = builds::agreed_order(&stock);
+        let shelf = Shelf::new(&stock, &order);
+        let each = |(h, share)| {
+            let regions = morning(&stock, REGIONS, h, share, self.seed);
+            mornings::measure(&shelf, &regions, 2 * self.rounds)
+        };
+        faces_and_shares().map(each).collect()
     }
 
     /// The screen, on the shelf that the targets speak of: regions with none inside, and with the first slot inside.
@@ -136,14 +151,16 @@ fn some_regions(stock: &Stock, seed: u64) -> Vec<Region> {
     ]
 }
 
+/// Every number of faces with every share.
+fn faces_and_shares() -> impl Iterator<Item = (usize, f64)> {
+    let shares = |h| [0.001, 0.01, 0.05].map(|share| (h, share));
+    [6, 8, 14, 32].into_iter().flat_map(shares)
+}
+
 /// Slanted ones of every number of faces and every share, and square boxes; and two with every other face open.
 fn all_regions(stock: &Stock, seed: u64) -> Vec<Region> {
-    let mut out = Vec::new();
-    for h in [6, 8, 14, 32] {
-        for share in [0.001, 0.01, 0.05] {
-            out.push(slanted(stock, h, share, seed));
-        }
-    }
+    let every = faces_and_shares().map(|(h, share)| slanted(stock, h, share, seed));
+    let mut out: Vec<Region> = every.collect();
     out.extend([0.001, 0.01, 0.05].map(|share| square(stock, share, seed)));
     out.extend([8, 32].map(|h| slanted(stock, h, 0.01, seed).half_open()));
     out

@@ -43,6 +43,35 @@ impl Region {
     }
 }
 
+/// The faces of several regions end to end, and how many each has.
+pub struct Joined {
+    pub face_counts: Vec<u32>,
+    pub normals: Vec<i32>,
+    pub offsets: Vec<i64>,
+    pub marks: Vec<u8>,
+}
+
+impl Joined {
+    /// Joins these regions.
+    pub fn new(regions: &[Region]) -> Joined {
+        let all = regions.iter();
+        Joined {
+            face_counts: all.clone().map(|region| region.h as u32).collect(),
+            normals: all
+                .clone()
+                .flat_map(|region| &region.normals)
+                .copied()
+                .collect(),
+            offsets: all
+                .clone()
+                .flat_map(|region| &region.offsets)
+                .copied()
+                .collect(),
+            marks: all.flat_map(|region| &region.marks).copied().collect(),
+        }
+    }
+}
+
 /// The sum of the products of a normal and a point.
 fn sum(normal: &[i32], point: &[i32]) -> i64 {
     let products = normal.iter().zip(point);
@@ -72,6 +101,18 @@ pub fn slanted(stock: &Stock, h: usize, share: f64, seed: u64) -> Region {
     let normals = slanted_pairs(stock.k, h, &mut numbers);
     let centre = numbers.below(stock.n);
     around(stock, "slanted", centre, normals, share)
+}
+
+/// So many regions of slanted faces, each around another stock point and with normals of its own.
+pub fn morning(stock: &Stock, regions: usize, h: usize, share: f64, seed: u64) -> Vec<Region> {
+    let mut numbers = Numbers::new(seed ^ ((h * 8 + stock.k) as u64));
+    let first = numbers.below(stock.n);
+    let region = |turn: usize| {
+        let normals = slanted_pairs(stock.k, h, &mut numbers);
+        let centre = (first + turn * (stock.n / regions)) % stock.n;
+        around(stock, "slanted, 64 regions", centre, normals, share)
+    };
+    (0..regions).map(region).collect()
 }
 
 /// A region of slanted faces around the point in the first slot.
@@ -171,9 +212,9 @@ fn around(
         faces.map(distance).fold(0.0, f64::max)
     };
     let mut distances: Vec<f64> = stock.points.chunks(k).map(beyond).collect();
-    distances.sort_by(f64::total_cmp);
-    let last = (share * stock.n as f64) as usize;
-    let reach = distances[last.min(stock.n - 1)];
+    let last = ((share * stock.n as f64) as usize).min(stock.n - 1);
+    let (_, reach, _) = distances.select_nth_unstable_by(last, f64::total_cmp);
+    let reach = *reach;
     let faces = normals.chunks(k).zip(&lengths);
     let offset = |(normal, length): (&[i32], &f64)| sum(normal, centre) as f64 - reach * length;
     let offsets = faces.map(|face| offset(face).floor().clamp(-FURTHEST, FURTHEST) as i64);

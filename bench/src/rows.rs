@@ -48,6 +48,14 @@ const LIST_PAIRS: [(&str, &str); 8] = [
     ("list", "CGAL"),
 ];
 
+/// What is compared for several regions that are listed in one call.
+const REGIONS_PAIRS: [(&str, &str); 4] = [
+    ("regions", "64 list calls"),
+    ("a region", "walk alone"),
+    ("regions", "CGAL, inside alone"),
+    ("regions", "CGAL, both lists"),
+];
+
 /// What is compared for a region that is screened.
 const SCREEN_PAIRS: [(&str, &str); 5] = [
     ("screen's walk", "walk"),
@@ -72,6 +80,7 @@ pub fn rows(measured: &Measured) -> Vec<Row> {
     let pairs: &[(&'static str, &'static str)] = match measured.call {
         Call::Build => &BUILD_PAIRS,
         Call::List => &LIST_PAIRS,
+        Call::Regions => &REGIONS_PAIRS,
         Call::Screen => &SCREEN_PAIRS,
         Call::Explain => &EXPLAIN_PAIRS,
         Call::Colours => &COLOUR_PAIRS,

@@ -14,6 +14,7 @@ fn at_most(row: &Row) -> Option<f64> {
         return None;
     }
     let eight = matches!(&row.asked, Some(asked) if asked.h == 8 && asked.kind == "slanted");
+    let one_in_a_hundred = matches!(&row.asked, Some(asked) if asked.h == 8 && asked.share == 0.01);
     let emptied = matches!(&row.asked, Some(asked) if asked.inside == 0 && asked.visits >= 200);
     match (row.call, row.against.as_str()) {
         ("build", "nanoflann") => Some(0.5),
@@ -24,6 +25,9 @@ fn at_most(row: &Row) -> Option<f64> {
         ("walk", "scan in Rust" | "scan in C++") if eight => Some(0.5),
         ("list", "scan in Rust" | "scan in C++") if eight => Some(1.5),
         ("screen's walk", "walk") if emptied => Some(0.9),
+        ("regions", "64 list calls") if one_in_a_hundred => Some(0.25),
+        ("a region", "walk alone") if one_in_a_hundred => Some(1.05),
+        ("regions", "CGAL, inside alone" | "CGAL, both lists") => Some(1.1),
         _ => None,
     }
 }
@@ -36,6 +40,7 @@ pub fn with_targets(mut rows: Vec<Row>, measured: &[Measured]) -> Vec<Row> {
     rows.extend(worst_build(measured));
     rows.extend(growth(measured));
     rows.extend(measured.iter().filter_map(explains_way));
+    rows.extend(["CGAL, inside alone", "CGAL, both lists"].map(|other| mornings(measured, other)));
     rows.sort_by_key(|row| row.at_most.is_some());
     rows
 }
@@ -81,6 +86,27 @@ fn growth(measured: &[Measured]) -> Option<Row> {
         other_micros: small.time("build") * work(FULL) / work(SMALLER),
         at_most: Some(1.3),
     })
+}
+
+/// Several regions in one call against another way, on the average of all their workloads' ratios: at most 1. Its times are the mean of the
+/// library's, and that divided by this average.
+fn mornings(measured: &[Measured], against: &str) -> Row {
+    let all = measured.iter().filter(|m| m.is_regions());
+    let count = all.clone().count() as f64;
+    let ratios = all.clone().map(|m| m.time("regions") / m.time(against));
+    let ratio = ratios.sum::<f64>() / count;
+    let micros = all.map(|m| m.time("regions")).sum::<f64>() / count;
+    Row {
+        call: "regions, average",
+        points: "clustered",
+        k: DIMENSION,
+        n: FULL,
+        asked: None,
+        micros,
+        against: against.to_string(),
+        other_micros: micros / ratio,
+        at_most: Some(1.0),
+    }
 }
 
 /// What the explain call takes beyond the check call, on the average over its numbers: at most 20 µs.

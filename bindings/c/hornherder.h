@@ -4,6 +4,8 @@
  *   hornherder_build     arranges points as a shelf
  *   hornherder_check     says whether an order is that shelf
  *   hornherder_list      lists the points inside and outside a region, by way of the shelf
+ *   hornherder_list_regions
+ *                        does so for each of several regions, and checks the order once for all
  *   hornherder_screen    says whether any point is inside a region, and which is the first
  *   hornherder_explain   says why a point is inside a region or outside
  *   hornherder_place     tests one point against a region, and says by how much
@@ -47,13 +49,14 @@
  * pointer may be NULL exactly where the length is 0. It must be aligned for its type, as every
  * array in C is. The buffers of one call must not overlap. Buffers behind a pointer to const are
  * not written. An order or a list buffer may be longer than n: its places from n on are neither
- * read nor written. The calls allocate nothing, and keep nothing once they have returned.
+ * read nor written; for several regions a list buffer may be longer than n places for each, and a
+ * counts buffer than three. The calls allocate nothing, and keep nothing once they have returned.
  *
  * Refusals. A call that cannot be done returns one of the numbers below. Each call names those that
  * it may return in the order of its tests, makes all the tests before its first write, and returns
  * the first that holds. A refused call changes no lent number, and every other number in its answer
  * is 0. Apart from the rules on floats and buffers above there is nothing that a caller must see to:
- * any k, n, h, values, lengths and lent numbers get the answer promised here.
+ * any k, n, h, region count, values, lengths and lent numbers get the answer promised here.
  * hornherder_refusal_text says what a number means.
  *
  * Threads. The library has no state. Any number of threads may call at once, as long as nobody
@@ -66,6 +69,7 @@
  * check before a list call pays for it twice. A screen checks the order too, and does no more than a
  * list call: where one of the first slots is inside, it is little more than that check. An explain
  * call goes one way down from the root, so it is little more than that check for every point.
+ * Several regions in one call share one check: each costs the walk alone.
  *
  * Machine. The library is compiled for x86-64 Linux or for Arm (aarch64) Linux, with the calling
  * convention that C compilers use there. Of the C library it needs at most memcpy, memmove and
@@ -88,7 +92,7 @@ extern "C" {
  * and the shared library has behind its name. It rises by one with each change of a name, a layout
  * or the meaning of a number.
  */
-#define HORNHERDER_VERSION 7
+#define HORNHERDER_VERSION 8
 
 /* k, how many coordinates a point has. */
 #define HORNHERDER_MIN_DIMENSION 1
@@ -103,6 +107,10 @@ extern "C" {
 
 /* h, how many faces a region has; there may be none. */
 #define HORNHERDER_MAX_FACES 32
+
+/* How many regions hornherder_list_regions takes. */
+#define HORNHERDER_MIN_REGIONS 1
+#define HORNHERDER_MAX_REGIONS 64
 
 /* A component of a normal. Its least is one more than that of a coordinate. */
 #define HORNHERDER_MIN_COMPONENT (-32767)
@@ -143,6 +151,7 @@ extern "C" {
 #define HORNHERDER_MARKS 11u
 #define HORNHERDER_VALUE_RANGE 12u
 #define HORNHERDER_NO_SUCH_NUMBER 13u
+#define HORNHERDER_REGION_COUNT 14u
 
 /* When a call returns this number, and the likely cause. */
 static inline const char *hornherder_refusal_text(uint32_t number)
@@ -158,7 +167,8 @@ static inline const char *hornherder_refusal_text(uint32_t number)
         return "the points are not k times n long (one point: not k; a place for a point: not 3); "
                "likely: n counted in coordinates, or a k of another shelf";
     case HORNHERDER_SHORT_BUFFER:
-        return "the order or the list buffer is shorter than n; "
+        return "the order or the list buffer is shorter than n "
+               "(several regions: the list buffer than n for each, or the counts than 3 for each); "
                "likely: a buffer of an older, smaller shelf";
     case HORNHERDER_COORDINATE_RANGE:
         return "a coordinate is not -32,768 to 32,767; likely: colours on another scale";
@@ -166,7 +176,8 @@ static inline const char *hornherder_refusal_text(uint32_t number)
         return "h is over 32; "
                "likely: faces that cut nothing off (in a text 33 to 64 faces)";
     case HORNHERDER_FACES_LENGTH:
-        return "the normals are not k times h long, or the offsets not h; "
+        return "the normals are not k times h long, or the offsets not h "
+               "(several regions: h of all together); "
                "likely: a face too many in one of the two, or faces of another dimension";
     case HORNHERDER_FACE_RANGE:
         return "a component is not -32,767 to 32,767, "
@@ -176,7 +187,8 @@ static inline const char *hornherder_refusal_text(uint32_t number)
         return "the first n slots are not the tree of these points; "
                "likely: the points changed, or the order is of another shelf: build again";
     case HORNHERDER_MARKS:
-        return "the marks are not h long, or a mark is not 0 or 1; "
+        return "the marks are not h long (several regions: h of all together), "
+               "or a mark is not 0 or 1; "
                "likely: closed faces left without a mark, or marks never set";
     case HORNHERDER_VALUE_RANGE:
         return "a value is not finite, or not from -128 up to but not including 128; "
@@ -184,6 +196,9 @@ static inline const char *hornherder_refusal_text(uint32_t number)
     case HORNHERDER_NO_SUCH_NUMBER:
         return "the number is n or more; "
                "likely: numbers counted from 1, or a number of another, larger shelf";
+    case HORNHERDER_REGION_COUNT:
+        return "the region count is not 1 to 64, or the face counts are not as many; "
+               "likely: no region at all, or more than one call takes";
     default:
         return "no number of this version";
     }
@@ -294,6 +309,46 @@ hornherder_listing hornherder_list(size_t k, size_t n, size_t h, const int32_t *
                                    const int64_t *offsets, size_t offsets_len,
                                    const uint8_t *marks, size_t marks_len, uint32_t *list,
                                    size_t list_len);
+
+/*
+ * Lists the points of a shelf that are inside and outside each of several regions. The order is
+ * checked once, before the first region, where as many calls of hornherder_list check it each time.
+ *
+ *   regions      how many regions there are, 1 to 64
+ *   points       k * n coordinates, each -32,768 to 32,767
+ *   order        at least n places; the first n must be the shelf of these points
+ *   face_counts  for each region how many faces it has, 0 to 32: exactly as many numbers as regions
+ *   normals      k components for each face of all regions, each -32,767 to 32,767
+ *   offsets      an offset for each of them, each -8,589,934,592 to 8,589,934,592
+ *   marks        a mark for each of them, each 0 (closed) or 1 (open)
+ *   lists        at least n places for each region, to be written
+ *   counts       at least three places for each region, to be written
+ *
+ * The faces stand end to end: those of region 0, then those of region 1, and so on. The h of the
+ * lengths of normals, offsets and marks is that of all regions together.
+ *
+ * Where it is done, region r has its list in lists[r * n] to lists[r * n + n - 1], just as
+ * hornherder_list, called with its faces alone, writes it to list[0] to list[n - 1]; and its counts,
+ * as that call answers them, in counts[3 * r] (inside), counts[3 * r + 1] (outside) and
+ * counts[3 * r + 2] (visits). Later places of both buffers stay as they were. These loops read both
+ * lists of region r in shelf order:
+ *
+ *     for (uint32_t i = 0; i < counts[3 * r]; i++)
+ *         take(lists[r * n + i]);
+ *     for (uint32_t i = 0; i < counts[3 * r + 1]; i++)
+ *         leave(lists[r * n + n - 1 - i]);
+ *
+ * Returns HORNHERDER_DONE, or a refusal: 1, 2, 3, then 14, then 4 to 8, then 11, then 9. One region
+ * with a fault refuses the whole call, and neither buffer is written. 6 is for a region with over 32
+ * faces, whatever the others have.
+ */
+uint32_t hornherder_list_regions(size_t k, size_t n, size_t regions, const int32_t *points,
+                                 size_t points_len, const uint32_t *order, size_t order_len,
+                                 const uint32_t *face_counts, size_t face_counts_len,
+                                 const int32_t *normals, size_t normals_len,
+                                 const int64_t *offsets, size_t offsets_len,
+                                 const uint8_t *marks, size_t marks_len, uint32_t *lists,
+                                 size_t lists_len, uint32_t *counts, size_t counts_len);
 
 /*
  * Says whether any point of a shelf is inside a region, and which is the first in shelf order. It

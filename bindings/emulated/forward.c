@@ -149,6 +149,17 @@ hornherder_listing hornherder_list(size_t k, size_t n, size_t h, const int32_t *
     return forward(WIRE_LIST, k, n, h, buffers).listing;
 }
 
+uint32_t hornherder_list_regions(size_t k, size_t n, size_t regions, const int32_t *points, size_t points_len, const uint32_t *order,
+                                 size_t order_len, const uint32_t *face_counts, size_t face_counts_len, const int32_t *normals,
+                                 size_t normals_len, const int64_t *offsets, size_t offsets_len, const uint8_t *marks,
+                                 size_t marks_len, uint32_t *lists, size_t lists_len, uint32_t *counts, size_t counts_len)
+{
+    const lent buffers[WIRE_BUFFERS] = {{points, points_len, 0},           {order, order_len, 0}, {normals, normals_len, 0},
+                                        {offsets, offsets_len, 0},         {marks, marks_len, 0}, {lists, lists_len, 1},
+                                        {face_counts, face_counts_len, 0}, {counts, counts_len, 1}};
+    return forward(WIRE_LIST_REGIONS, k, n, regions, buffers).code;
+}
+
 hornherder_screening hornherder_screen(size_t k, size_t n, size_t h, const int32_t *points, size_t points_len, const uint32_t *order,
                                        size_t order_len, const int32_t *normals, size_t normals_len, const int64_t *offsets,
                                        size_t offsets_len, const uint8_t *marks, size_t marks_len)

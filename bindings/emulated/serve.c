@@ -119,6 +119,19 @@ static wire_answer ask(const wire_request *r, void **b)
     }
 }
 
+/* Makes the call of a request that has several regions, with these buffers. */
+static wire_answer ask_all(const wire_request *r, void **b)
+{
+    const uint64_t *length = r->length;
+    wire_answer answer = {{0, 0, 0, 0}};
+    answer.code = hornherder_list_regions(
+        r->k, r->n, r->h, (const int32_t *)b[WIRE_POINTS], length[WIRE_POINTS], (const uint32_t *)b[WIRE_ORDER], length[WIRE_ORDER],
+        (const uint32_t *)b[WIRE_FACE_COUNTS], length[WIRE_FACE_COUNTS], (const int32_t *)b[WIRE_NORMALS], length[WIRE_NORMALS],
+        (const int64_t *)b[WIRE_OFFSETS], length[WIRE_OFFSETS], (const uint8_t *)b[WIRE_MARKS], length[WIRE_MARKS],
+        (uint32_t *)b[WIRE_LIST_BUFFER], length[WIRE_LIST_BUFFER], (uint32_t *)b[WIRE_COUNTS_BUFFER], length[WIRE_COUNTS_BUFFER]);
+    return answer;
+}
+
 /* Makes the call of a request with these buffers. */
 static wire_answer call(const wire_request *r, void **b)
 {
@@ -138,6 +151,8 @@ static wire_answer call(const wire_request *r, void **b)
     case WIRE_EXPLAIN:
     case WIRE_PLACE:
         return ask(r, b);
+    case WIRE_LIST_REGIONS:
+        return ask_all(r, b);
     case WIRE_POINT_FROM_COLOUR:
     case WIRE_POINT_FROM_GREY:
     case WIRE_POINT_FROM_NOTHING:

@@ -12,6 +12,7 @@ enum {
     WIRE_BUILD,
     WIRE_CHECK,
     WIRE_LIST,
+    WIRE_LIST_REGIONS,
     WIRE_SCREEN,
     WIRE_EXPLAIN,
     WIRE_PLACE,
@@ -22,13 +23,23 @@ enum {
 };
 
 /* The buffers. A call that has no such buffer lends it as NULL and 0; calls for one point have it, or its place, in the first. */
-enum { WIRE_POINTS, WIRE_ORDER, WIRE_NORMALS, WIRE_OFFSETS, WIRE_MARKS, WIRE_LIST_BUFFER, WIRE_BUFFERS };
+enum {
+    WIRE_POINTS,
+    WIRE_ORDER,
+    WIRE_NORMALS,
+    WIRE_OFFSETS,
+    WIRE_MARKS,
+    WIRE_LIST_BUFFER,
+    WIRE_FACE_COUNTS,
+    WIRE_COUNTS_BUFFER,
+    WIRE_BUFFERS
+};
 
-/* The most bytes that a buffer may have here: enough for all that the library accepts and some more. */
-#define WIRE_ROOM ((size_t)4 << 20)
+/* The most bytes that a buffer may have here: enough for all that the library accepts, 64 full lists among it, and some more. */
+#define WIRE_ROOM ((size_t)24 << 20)
 
 typedef struct {
-    uint64_t call, k, n, h;
+    uint64_t call, k, n, h;        /* of several regions their count stands for h */
     uint64_t length[WIRE_BUFFERS]; /* elements */
     uint64_t null[WIRE_BUFFERS];   /* 1 where the pointer was NULL */
     float value[3];                /* of a reading, those it has first */

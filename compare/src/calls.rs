@@ -76,7 +76,7 @@ pub fn list(lent: &Lent) -> (raw::Listing, Vec<u32>) {
 }
 
 /// Calls the library's list: the answer, and all that was lent afterwards.
-fn listed(lent: &Lent) -> (raw::Listing, Lent) {
+pub(crate) fn listed(lent: &Lent) -> (raw::Listing, Lent) {
     let mut ours = lent.clone();
     let answer = lend(lent, &lent.marks, |marks| {
         raw::list(
@@ -106,7 +106,7 @@ fn listed_alike(why: &str, other: &Lent, answer: raw::Listing, ours: &Lent) {
 }
 
 /// Makes a call of the library with a slice, right behind which other numbers stand, and asks that it leaves both as they were.
-fn lend<T, A>(lent: &Lent, slice: &[T], call: impl FnOnce(&[T]) -> A) -> A
+pub(crate) fn lend<T, A>(lent: &Lent, slice: &[T], call: impl FnOnce(&[T]) -> A) -> A
 where
     T: Copy + Debug + From<u8> + PartialEq,
 {
@@ -338,7 +338,7 @@ fn placed(lent: &Lent) -> raw::Placing {
 }
 
 /// Asks that the two calls left all that was lent alike.
-fn same_lent(call: &str, lent: &Lent, ours: &Lent, theirs: &Lent) {
+pub(crate) fn same_lent(call: &str, lent: &Lent, ours: &Lent, theirs: &Lent) {
     same(call, lent, &ours.points, &theirs.points);
     same(call, lent, &ours.order, &theirs.order);
     same(call, lent, &ours.normals, &theirs.normals);
@@ -354,7 +354,11 @@ fn kept(call: &str, lent: &Lent, code: u32, before: &[u32], after: &[u32]) {
 }
 
 /// Asks that two runs of places are the same, and names the first that is not.
-fn same<T: PartialEq + Debug>(call: &str, lent: &Lent, ours: &[T], theirs: &[T]) {
+pub(crate) fn same<T, L>(call: &str, lent: &L, ours: &[T], theirs: &[T])
+where
+    T: PartialEq + Debug,
+    L: Debug,
+{
     assert_eq!(ours.len(), theirs.len(), "{call} of {lent:?}");
     let mut places = ours.iter().zip(theirs).enumerate();
     if let Some((place, (is, should))) = places.find(|(_, (is, should))| is != should) {

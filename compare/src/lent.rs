@@ -7,7 +7,7 @@ use std::fmt;
 /// The greatest offset.
 pub const MOST_OFFSET: i64 = 8_589_934_592;
 
-/// The arguments of all calls: build and check take the first part, the screen all but the list buffer, the explain call the same with the
+/// The arguments of all calls for one region: build and check take the first part, the screen all but the list buffer, the explain call the same with the
 /// number, the one-point test the point.
 #[derive(Clone, PartialEq, Eq)]
 pub struct Lent {
@@ -119,6 +119,17 @@ impl Lent {
         changed.offsets.push(face.offset);
         changed.marks.push(face.mark);
         changed
+    }
+
+    /// The same with the faces of another region after its own.
+    pub fn with_more_faces(&self, region: &Lent) -> Lent {
+        Lent {
+            h: self.h + region.h,
+            normals: [&self.normals[..], &region.normals].concat(),
+            offsets: [&self.offsets[..], &region.offsets].concat(),
+            marks: [&self.marks[..], &region.marks].concat(),
+            ..self.clone()
+        }
     }
 
     /// The same with other numbers behind place n of both buffers and `beyond` the slices, and other first

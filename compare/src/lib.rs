@@ -12,5 +12,6 @@ pub mod margins;
 pub mod readings;
 pub mod reasons;
 pub mod seen;
+pub mod several;
 pub mod shelves;
 pub mod stock;

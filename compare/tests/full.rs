@@ -6,6 +6,7 @@ use compare::cases;
 use compare::damage;
 use compare::faces;
 use compare::lent::Lent;
+use compare::several::{self, Several};
 use compare::stock::Stock;
 use hornherder::raw;
 use second::region::{CLOSED, OPEN};
@@ -44,6 +45,27 @@ fn full_shelves() {
     println!("full shelves: {nearness}");
 }
 
+/// Compares the call for several regions with as many as are allowed on a full shelf: of no faces, of some, and of as many as are allowed.
+#[test]
+fn full_regions() {
+    cases::make("full shelves with 64 regions", 1, |chance, _| {
+        let points = Stock::Clustered.points(chance, 3, N);
+        let shelf = calls::shelf(&Lent::new(chance, 3, points));
+        let regions: Vec<Lent> = (0..64)
+            .map(|region| {
+                let h = [0, 1, 2, 6, 1, 3, 32, 8][region % 8];
+                let (normals, offsets) = faces::region(chance, 3, &shelf.points, h);
+                let closed = shelf.with_faces(normals, offsets);
+                closed.with_marks(faces::marks(chance, h))
+            })
+            .collect();
+        let call = Several::new(chance, &shelf, &regions);
+        let (code, _, counts) = several::list(&call);
+        assert_eq!(code, 0);
+        assert!(counts.chunks_exact(3).any(|three| three[2] > 0));
+    });
+}
+
 /// As many faces as are allowed, which all lie on one plane and leave nothing between them: a screen finds nothing and goes down every branch
 /// that the plane cuts.
 fn empty_on_a_plane(k: usize) -> (Vec<i32>, Vec<i64>) {
@@ -65,6 +87,19 @@ fn deepest_regions(k: usize, points: &[i32], order: &[u32], marks: &[u8; 32]) {
     let answer = raw::screen(k, N, 32, points, order, &normals, &offsets, marks);
     assert_eq!((answer.code, answer.found), (0, 0));
     assert!(answer.visits > 0);
+}
+
+/// Makes the deepest and largest call for several regions on a shelf of this dimension: as many as are allowed, each of as many faces of these
+/// marks as are allowed.
+fn deepest_morning(k: usize, points: &[i32], order: &[u32], marks: &[u8; 32]) {
+    let (mut lists, mut counts) = (vec![0; 64 * N], [0; 64 * 3]);
+    let (normals, offsets) = empty_on_a_plane(k);
+    let (normals, offsets, marks) = (normals.repeat(64), offsets.repeat(64), marks.repeat(64));
+    let (lists, counts) = (&mut lists, &mut counts);
+    #[rustfmt::skip]
+    let code = raw::list_regions(k, N, 64, points, order, &[32; 64], &normals, &offsets, &marks, lists, counts);
+    assert_eq!(code, 0);
+    assert!(counts.chunks_exact(3).all(|three| three[2] > 0));
 }
 
 /// Makes the deepest explain call on a shelf of this dimension: the point in a slot of the last depth, through which faces of these marks go
@@ -105,6 +140,7 @@ fn stack() {
             assert_eq!(raw::check(k, N, &points, &order), 0);
             for mark in [CLOSED, OPEN] {
                 deepest_regions(k, &points, &order, &[mark; 32]);
+                deepest_morning(k, &points, &order, &[mark; 32]);
                 deepest_way(k, &points, &order, &[mark; 32]);
             }
         }

@@ -21,6 +21,15 @@ static int explains_nothing(hornherder_explaining answer, uint32_t code)
     return answer.code == code && answer.reason == 0 && answer.face == 0 && answer.slot == 0 && answer.margin == 0;
 }
 
+/* What several regions with no faces answer, with so many places for counts, which are NULL where there are none. */
+static uint32_t regions_of(size_t k, size_t n, size_t regions, const int32_t *points, size_t count_places)
+{
+    const uint32_t none[2] = {0, 0};
+    uint32_t counts[6] = {7, 7, 7, 7, 7, 7};
+    return hornherder_list_regions(k, n, regions, points, k * n, NULL, 0, regions ? none : NULL, regions, NULL, 0, NULL, 0, NULL, 0, NULL, 0,
+                                   count_places ? counts : NULL, count_places);
+}
+
 /* 1 where a placing has this code and this inside, and nothing is measured. */
 static int not_measured(hornherder_placing answer, uint32_t code, uint8_t inside)
 {
@@ -48,6 +57,8 @@ int main(void)
         right &= is(hornherder_list(k, 0, 0, NULL, 0, NULL, 0, NULL, 0, NULL, 0, NULL, 0, NULL, 0), HORNHERDER_DONE);
         right &= finds_nothing(hornherder_screen(k, 0, 0, NULL, 0, NULL, 0, NULL, 0, NULL, 0, NULL, 0), HORNHERDER_DONE);
         right &= explains_nothing(hornherder_explain(k, 0, 0, 0, NULL, 0, NULL, 0, NULL, 0, NULL, 0, NULL, 0), HORNHERDER_NO_SUCH_NUMBER);
+        right &= regions_of(k, 0, 2, NULL, 6) == HORNHERDER_DONE && regions_of(k, 0, 0, NULL, 0) == HORNHERDER_REGION_COUNT;
+        right &= regions_of(k, 0, 2, NULL, 0) == HORNHERDER_SHORT_BUFFER && regions_of(k, 1, 2, zero, 6) == HORNHERDER_SHORT_BUFFER;
         right &= not_measured(inside, HORNHERDER_DONE, 1);
         right &= not_measured(none, HORNHERDER_POINTS_LENGTH, 0);
         right &= hornherder_build(k, 1, zero, k, NULL, 0) == HORNHERDER_SHORT_BUFFER;

@@ -25,6 +25,13 @@
 //! assert!(listing.outside().eq([1, 5, 0, 3]));
 //! assert_eq!(listing.visits(), 5);
 //!
+//! // A morning's regions in one call, which checks the order once: the same and its second face alone.
+//! let second = Region::everywhere(2)?.with_face(&[-1, 0], -6)?;
+//! let mut buffer = vec![0; 2 * shelf.len()];
+//! let listings = shelf.list_all([&region, &second], &mut buffer)?;
+//! assert_eq!(listings[0].inside(), [2, 4]);
+//! assert_eq!(listings[1].inside(), [1, 5, 0, 2, 4]);
+//!
 //! // Is any point inside at all? The first in shelf order says so, and the call stops there.
 //! assert_eq!(shelf.screen(&region)?.found(), Some(2));
 //!
@@ -48,13 +55,15 @@
 //! seven tenths of the call on x86-64 and four fifths on Arm; on small shelves less. A check before a list
 //! call pays for it twice. A screen checks the order too, and does no more than a list call: where one of
 //! the first slots is inside, it is little more than that check. An explain call goes one way down from the
-//! root, so it is little more than that check for every point.
+//! root, so it is little more than that check for every point. Several regions in one call share one check:
+//! each costs the walk alone.
 //!
 //! The library keeps no state, so any number of threads may call at once. A call needs less than
 //! [`raw::STACK_BYTES`] of stack.
 
 #![warn(missing_docs)]
 
+mod joined;
 mod listing;
 mod placing;
 pub mod raw;
@@ -89,6 +98,8 @@ pub const MIN_COORDINATE: i32 = -32_768;
 pub const MAX_COORDINATE: i32 = 32_767;
 /// The most faces of a region.
 pub const MAX_FACES: usize = 32;
+/// The most regions in one call; the fewest are 1.
+pub const MAX_REGIONS: usize = 64;
 /// The greatest component of a normal; the least is its negative.
 pub const MAX_COMPONENT: i32 = 32_767;
 /// The greatest offset of a face; the least is its negative.

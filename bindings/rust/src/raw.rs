@@ -19,6 +19,18 @@
 //! let closed = [raw::CLOSED_FACE];
 //! let answer = raw::list(1, 2, 1, &points, &order, &[1], &[5], &closed, &mut list);
 //! assert_eq!((answer.inside, answer.outside, answer.visits), (1, 1, 2));
+//!
+//! // Several regions in one call: here one with the same face, and one with none. The list buffer has two
+//! // places for each of them, the counts three.
+//! let (mut lists, mut counts) = ([0; 4], [0; 6]);
+//! let mut list_regions = |regions, face_counts: &[u32]| {
+//!     let (lists, counts) = (&mut lists, &mut counts);
+//!     raw::list_regions(1, 2, regions, &points, &order, face_counts, &[1], &[5], &closed, lists, counts)
+//! };
+//! assert_eq!(list_regions(1, &[1, 0]), 14); // two face counts for one region
+//! assert_eq!(list_regions(2, &[1, 0]), 0);
+//! assert_eq!((lists, counts), ([1, 0, 0, 1], [1, 1, 2, 2, 0, 0]));
+//!
 //! let answer = raw::screen(1, 2, 1, &points, &order, &[1], &[5], &closed);
 //! assert_eq!((answer.found, answer.number, answer.visits), (1, 1, 2));
 //! let answer = raw::explain(1, 2, 1, 0, &points, &order, &[1], &[5], &closed);
@@ -42,7 +54,7 @@
 //! ```
 
 /// The version of the calls and of the archive: the header's `HORNHERDER_VERSION`.
-pub const VERSION: u32 = 7;
+pub const VERSION: u32 = 8;
 
 /// The stack that is enough for any call, in bytes.
 pub const STACK_BYTES: usize = 32_768;
@@ -180,6 +192,28 @@ extern "C" {
         list_len: usize,
     ) -> Listing;
 
+    fn hornherder_list_regions(
+        k: usize,
+        n: usize,
+        regions: usize,
+        points: *const i32,
+        points_len: usize,
+        order: *const u32,
+        order_len: usize,
+        face_counts: *const u32,
+        face_counts_len: usize,
+        normals: *const i32,
+        normals_len: usize,
+        offsets: *const i64,
+        offsets_len: usize,
+        marks: *const u8,
+        marks_len: usize,
+        lists: *mut u32,
+        lists_len: usize,
+        counts: *mut u32,
+        counts_len: usize,
+    ) -> u32;
+
     fn hornherder_screen(
         k: usize,
         n: usize,
@@ -309,6 +343,50 @@ pub fn list(
             marks.len(),
             list.as_mut_ptr(),
             list.len(),
+        )
+    }
+}
+
+/// Lists each of several regions, whose faces stand end to end: region `r` as [`list`] does with its faces
+/// alone, from place `r * n` of `lists` on, and its numbers inside, outside and of visits from place `3 * r`
+/// of `counts` on. The order is checked once. Refusals: 1, 2, 3, then 14, then 4 to 8, then 11, then 9.
+#[must_use]
+#[allow(clippy::too_many_arguments)]
+pub fn list_regions(
+    k: usize,
+    n: usize,
+    regions: usize,
+    points: &[i32],
+    order: &[u32],
+    face_counts: &[u32],
+    normals: &[i32],
+    offsets: &[i64],
+    marks: &[u8],
+    lists: &mut [u32],
+    counts: &mut [u32],
+) -> u32 {
+    // SAFETY: as said above.
+    unsafe {
+        hornherder_list_regions(
+            k,
+            n,
+            regions,
+            points.as_ptr(),
+            points.len(),
+            order.as_ptr(),
+            order.len(),
+            face_counts.as_ptr(),
+            face_counts.len(),
+            normals.as_ptr(),
+            normals.len(),
+            offsets.as_ptr(),
+            offsets.len(),
+            marks.as_ptr(),
+            marks.len(),
+            lists.as_mut_ptr(),
+            lists.len(),
+            counts.as_mut_ptr(),
+            counts.len(),
         )
     }
 }

@@ -1,11 +1,13 @@
 //! A shelf: points and the one order that arranges them.
 
+use crate::joined::Joined;
 use crate::listing::Listing;
 use crate::raw;
 use crate::reason::Reason;
 use crate::refusal::{done, same_version, Refusal};
 use crate::region::Region;
 use crate::screening::Screening;
+use crate::MAX_REGIONS;
 use std::borrow::Cow;
 
 /// Points arranged as a k-d tree. Whatever its history, its order is the tree of its points.
@@ -134,6 +136,63 @@ impl<'s> Shelf<'s> {
         done(answer.code)?;
         let (inside, outside) = buffer[..self.len()].split_at(answer.inside as usize);
         Ok(Listing::new(inside, outside, answer.visits))
+    }
+
+    /// Lists the points inside and outside each of 1 to [`MAX_REGIONS`] regions into a buffer of at least
+    /// [`len`](Shelf::len) places for each: a listing for each, in the order of the regions, as
+    /// [`list`](Shelf::list) gives it for that region alone. The order is checked once for all, which as many
+    /// calls of `list` do each time.
+    ///
+    /// ```
+    /// use hornherder::{Refusal, Region, Shelf};
+    ///
+    /// let shelf = Shelf::build(1, vec![30, 10, 20])?;
+    /// let from = |least| Region::everywhere(1)?.with_face(&[1], least);
+    /// let regions = [from(10)?, from(20)?, from(31)?];
+    ///
+    /// let mut buffer = vec![0; regions.len() * shelf.len()];
+    /// let listings = shelf.list_all(&regions, &mut buffer)?;
+    /// let inside: Vec<&[u32]> = listings.iter().map(|listing| listing.inside()).collect();
+    /// assert_eq!(inside, [&[1, 2, 0][..], &[2, 0], &[]]);
+    /// assert!(listings[1].outside().eq([1]));
+    ///
+    /// // Any regions will do, wherever they are kept.
+    /// let two = shelf.list_all([&regions[2], &regions[0]], &mut buffer)?;
+    /// assert_eq!(two[0].inside().len() + two[1].inside().len(), 3);
+    /// assert_eq!(shelf.list_all(&[], &mut buffer), Err(Refusal::RegionCount));
+    /// # Ok::<(), hornherder::Refusal>(())
+    /// ```
+    ///
+    /// Refused are no region at all or more than [`MAX_REGIONS`], a buffer with too few places, and faces made
+    /// for another dimension. One region with a fault refuses all, and the buffer is left alone.
+    pub fn list_all<'l, 'r>(
+        &self,
+        regions: impl IntoIterator<Item = &'r Region>,
+        buffer: &'l mut [u32],
+    ) -> Result<Vec<Listing<'l>>, Refusal> {
+        let joined = Joined::new(self.k, regions);
+        let mut counts = [[0; 3]; MAX_REGIONS];
+        done(raw::list_regions(
+            self.k,
+            self.len(),
+            joined.face_counts.len(),
+            &self.points,
+            &self.order,
+            &joined.face_counts,
+            &joined.normals,
+            &joined.offsets,
+            &joined.marks,
+            buffer,
+            counts.as_flattened_mut(),
+        ))?;
+        let lists: &'l [u32] = buffer;
+        let listing = |(region, [inside, _, visits]): (usize, &[u32; 3])| {
+            let list = &lists[region * self.len()..][..self.len()];
+            let (inside, outside) = list.split_at(*inside as usize);
+            Listing::new(inside, outside, *visits)
+        };
+        let counted = counts[..joined.face_counts.len()].iter().enumerate();
+        Ok(counted.map(listing).collect())
     }
 
     /// Finds the first point inside a region, in shelf order, or says that there is none. It stops as soon

@@ -50,6 +50,8 @@ fn same_constants() {
         ("MIN_COORDINATE", i64::from(hornherder::MIN_COORDINATE)),
         ("MAX_COORDINATE", i64::from(hornherder::MAX_COORDINATE)),
         ("MAX_FACES", hornherder::MAX_FACES as i64),
+        ("MIN_REGIONS", 1),
+        ("MAX_REGIONS", hornherder::MAX_REGIONS as i64),
         ("MIN_COMPONENT", -i64::from(hornherder::MAX_COMPONENT)),
         ("MAX_COMPONENT", i64::from(hornherder::MAX_COMPONENT)),
         ("MIN_OFFSET", -hornherder::MAX_OFFSET),

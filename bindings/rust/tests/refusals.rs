@@ -1,6 +1,6 @@
 //! Every refusal, met through the types that people use.
 
-use hornherder::{raw, Refusal, Region, Shelf, MAX_OFFSET, MAX_POINTS};
+use hornherder::{raw, Refusal, Region, Shelf, MAX_OFFSET, MAX_POINTS, MAX_REGIONS};
 use std::error::Error;
 
 /// A region of so many faces, all of which hold every point of one coordinate.
@@ -126,6 +126,39 @@ fn of_list() {
     let other = shelf.list(&faces(1).unwrap(), &mut buffer);
     assert_eq!(other, Err(Refusal::FacesLength));
     assert_eq!(buffer, [70, 71, 72]);
+}
+
+/// Listing several regions meets 14, 4 and 7, in this order, and leaves the buffer alone.
+#[test]
+fn of_list_all() {
+    let shelf = Shelf::build(2, vec![1, 2, 3, 4]).unwrap();
+    let (everywhere, other) = (Region::everywhere(2).unwrap(), faces(1).unwrap());
+    let mut buffer = [70; 2 * MAX_REGIONS];
+    let too_many = vec![other.clone(); MAX_REGIONS + 1];
+    let over = shelf.list_all(&too_many, &mut []);
+    assert_eq!(over, Err(Refusal::RegionCount));
+    assert_eq!(shelf.list_all([], &mut buffer), Err(Refusal::RegionCount));
+    let short = shelf.list_all([&everywhere, &other], &mut buffer[..3]);
+    assert_eq!(short, Err(Refusal::ShortBuffer));
+    let faulty = shelf.list_all([&everywhere, &other], &mut buffer);
+    assert_eq!(faulty, Err(Refusal::FacesLength));
+    assert_eq!(buffer, [70; 2 * MAX_REGIONS]);
+    let most = vec![everywhere; MAX_REGIONS];
+    assert_eq!(shelf.list_all(&most, &mut buffer).unwrap().len(), 64);
+}
+
+/// Faces of one dimension too few and one too many, whose normals joined are as long as they should be, are refused all the same.
+#[test]
+fn even_when_joined() {
+    let shelf = Shelf::build(2, vec![1, 2, 3, 4]).unwrap();
+    let less = faces(1).unwrap();
+    let more = Region::new(3, vec![0; 3], vec![0]).unwrap();
+    let mut buffer = [70; 4];
+    let refused = shelf.list_all([&less, &more], &mut buffer);
+    assert_eq!(refused, Err(Refusal::FacesLength));
+    assert_eq!(buffer, [70; 4]);
+    let no_faces = Region::everywhere(3).unwrap();
+    assert!(shelf.list_all([&no_faces], &mut buffer).is_ok());
 }
 
 /// Screening meets 7.

@@ -6,6 +6,8 @@ pub mod CheckOutcome
 pub mod CheckPromises
 pub mod ListOutcome
 pub mod ListPromises
+pub mod ListRegionsOutcome
+pub mod ListRegionsPromises
 pub mod ScreenOutcome
 pub mod ScreenPromises
 pub mod ExplainOutcome

@@ -2,36 +2,17 @@
 use mathlib.Core.Path.{_≡_, refl, sym, _∙_}
 use mathlib.Core.Logic.{_≢_}
 use mathlib.Core.List.{List, _++_}
-use Prim.Native.Nat.{ℕ, _-_, _≤_}
-use native.Mathlib.Omega.{arith}
+use Prim.Native.Nat.{ℕ, _-_}
 use lib.ListN.{length, drop}
-use lib.IntN.{ℤ}
 use Rattle.terms.specs.Lent.{Stock, Order, Faces}
 use Rattle.terms.specs.Points.{pointOf, slotsOf}
 use Rattle.terms.specs.Tree.{shelfRun}
-use Rattle.terms.specs.Region.{Region, region}
+use Rattle.terms.specs.Region.{region}
 use Rattle.terms.specs.ListCall.{listRefusals, listCode, listAnswer, listAfter, ListedAs}
-use Rattle.theory.specs.BoxFuel.{visits-le-slots}
-use Rattle.theory.specs.InsideAndOutside.{lists-length}
 use Rattle.theory.specs.FirstRefusal.{if-refused}
 use Rattle.theory.specs.ListCall.{ListPassed, list-passed}
 use Rattle.walk.specs.Shelf.{ShelfWalked}
 use Rattle.hornherder.specs.First.{First}
-
--- No count of the walk is over the number of slots.
-pub record AtMost (n i o u : ℕ) : Type 0 where
-  pub inside : i ≤ n
-  pub outside : o ≤ n
-  pub visited : u ≤ n
-
-pub counts-at-most : {g : Region} {at : ℕ → ℕ → ℤ} {run after : List ℕ} {i u : ℕ} → ShelfWalked g at run after i u → AtMost (length run) i (length run - i) u
-counts-at-most {g} {at} {run} w =
-    let both = lists-length g at run in
-    record {
-      inside = omega (arith, w .listed .inside);
-      outside = omega arith;
-      visited = omega (arith, w .visited, visits-le-slots g at run);
-    }
 
 module _ (s : Stock) (o : Order) (f : Faces) (list : List ℕ) {c : ℕ} (first : First (listRefusals s o f list) c) where
   list-coded : c ≡ listCode s o f list

@@ -1,10 +1,9 @@
 -- What a call that makes a point gives, put together: where its place is not three long, the refusal; where it is, what the reading gives.
 use mathlib.Core.Path.{_≡_, refl, sym, ap, _∙_}
 use mathlib.Core.Logic.{_≢_}
-use mathlib.Core.List.{List, [], _∷_}
+use mathlib.Core.List.{List}
 use Prim.Native.Nat.{ℕ}
-use native.Mathlib.Omega.{arith}
-use lib.ListN.{length, set}
+use lib.ListN.{length}
 use lib.IntN.{ℤ}
 use Rattle.terms.specs.declared.Reading.{Reading}
 use Rattle.terms.specs.declared.Given.{Given}
@@ -36,11 +35,3 @@ module _ (r : Reading) (place : List ℤ) {c : ℕ} (first : First (lengthRefusa
     answered = p ∙ ap numbersOf e ∙ sym (point-numbers r place (point-sized place first z));
     written = q ∙ ap (λ (g : Given). placeOf g place) e ∙ sym (point-place r place (point-sized place first z));
   }
-
--- Three places, each stored into.
-pub three-stored : (place : List ℤ) (a b c : ℤ) → length place ≡ 3 → set (set (set place 0 a) 1 b) 2 c ≡ a ∷ b ∷ c ∷ []
-three-stored [] a b c size = absurd (omega arith)
-three-stored (x ∷ []) a b c size = absurd (omega arith)
-three-stored (x ∷ y ∷ []) a b c size = absurd (omega arith)
-three-stored (x ∷ y ∷ z ∷ []) a b c size = refl
-three-stored (x ∷ y ∷ z ∷ w ∷ place) a b c size = absurd (omega arith)

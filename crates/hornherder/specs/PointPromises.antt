@@ -16,7 +16,7 @@ use Rattle.terms.specs.declared.Explaining.{Explaining}
 use Rattle.terms.specs.declared.Placing.{Placing}
 use Rattle.terms.specs.declared.Listing.{Listing}
 use Rattle.terms.specs.Tests.{every}
-use Rattle.terms.specs.Lent.{Stock, Order, Faces}
+use Rattle.terms.specs.Lent.{Stock, Order, Faces, Regions}
 use Rattle.terms.specs.Points.{isCoordinate}
 use Rattle.terms.specs.Value.{numerator, denominator}
 use Rattle.terms.specs.Reading.{nothing, valuesOf, valueAt, gives}
@@ -24,6 +24,7 @@ use Rattle.terms.specs.PointCall.{numbersOf, placeOf, pointRefusals, pointCode,
 use Rattle.terms.specs.BuildCall.{Built}
 use Rattle.terms.specs.CheckCall.{checkAnswer}
 use Rattle.terms.specs.ListCall.{ListedAs}
+use Rattle.terms.specs.ListRegionsCall.{RegionsListedAs}
 use Rattle.terms.specs.ScreenCall.{screenAnswer}
 use Rattle.terms.specs.ExplainCall.{explainAnswer}
 use Rattle.terms.specs.PlaceCall.{placeAnswer}
@@ -33,7 +34,16 @@ use Rattle.theory.specs.Floors.{IsFloor}
 use Rattle.theory.specs.Values.{coordinate-is-floor, coordinate-rises}
 use Rattle.theory.specs.FirstRefusal.{FirstHeld, if-refused}
 use Rattle.theory.specs.FirstRefusalIsLowest.{Lowest}
-use Rattle.theory.specs.NeverRefused.{never-answered, build-never-five, check-never-five, list-never-five, screen-never-five, explain-never-five, place-never-five}
+use Rattle.theory.specs.NeverRefused.{
+  never-answered,
+  build-never-five,
+  check-never-five,
+  list-never-five,
+  list-regions-never-five,
+  screen-never-five,
+  explain-never-five,
+  place-never-five,
+}
 use Rattle.theory.specs.PointCall.{
   point-first,
   point-lowest,
@@ -51,6 +61,7 @@ use Rattle.theory.specs.PointCall.{
 use Rattle.hornherder.specs.BuildPromises.{build-answers-the-first}
 use Rattle.hornherder.specs.CheckPromises.{check-answers-the-first}
 use Rattle.hornherder.specs.ListPromises.{list-answers-the-first}
+use Rattle.hornherder.specs.ListRegionsPromises.{list-regions-answers-the-first}
 use Rattle.hornherder.specs.ScreenPromises.{screen-answers-the-first}
 use Rattle.hornherder.specs.ExplainPromises.{explain-answers-the-first}
 use Rattle.hornherder.specs.PlacePromises.{place-answers-the-first}
@@ -132,6 +143,10 @@ module _ (s : Stock) (o : Order) (made : MadePoints (s .points)) where
 
   pub list-takes-made-points : (f : Faces) (list : List ℕ) {a : Listing} {x : List ℕ} → ListedAs s o f list a x → a .code ≢ 5
   list-takes-made-points f list e = never-answered (omega arith) (list-never-five s o (made-points-fit made) f list) (list-answers-the-first s o f list e)
+
+  pub list-regions-takes-made-points : (g : Regions) (lists counts : List ℕ) {a : ℕ} {x y : List ℕ} → RegionsListedAs s o g lists counts a x y → a ≢ 5
+  list-regions-takes-made-points g lists counts e =
+      never-answered (omega arith) (list-regions-never-five s o (made-points-fit made) g lists counts) (list-regions-answers-the-first s o g lists counts e)
 
   pub screen-takes-made-points : (f : Faces) {a : Screening} → a ≡ screenAnswer s o f → a .code ≢ 5
   screen-takes-made-points f e = never-answered (omega arith) (screen-never-five s o (made-points-fit made) f) (screen-answers-the-first s o f e)

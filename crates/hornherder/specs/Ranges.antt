@@ -1,12 +1,15 @@
--- The range test as the machine makes it, for numbers of any width: what it reads back is what was lent. And a loop that asks every item of a list.
+-- The range test as the machine makes it, for numbers of any width: what it reads back is what was lent. A number against its least and its most, as two
+-- comparisons find it. And a loop that asks every item of a list.
 use mathlib.Core.Path.{_≡_, sym, ap, _∙_}
-use mathlib.Core.Bool.{Bool, true, false}
+use mathlib.Core.Bool.{Bool, true, false, _&&_, not}
 use mathlib.Core.List.{List}
-use Prim.Native.Nat.{ℕ, _+_, _<_}
+use Prim.Native.Nat.{ℕ, _+_, _≤_, _<_}
 use lib.ListN.{length, getD, take}
 use lib.Seq.{take-length}
 use lib.IntN.{ℤ}
+use lib.Dec.{leb}
 use lib.Signed.{ltZ, leZ}
+use borrow.Author.Tests.{le-leb, lt-leb}
 use mir.Syntax.{Width}
 use mir.Val.{SFits, toZ, ofZ}
 use mir.Facts.{toZ-ofZ}
@@ -29,6 +32,17 @@ module _ {w : Width} {x least greatest : ℤ} (fx : SFits w x) (fl : SFits w lea
       let t : ltZ x least ≡ false = rw (toZ-ofZ fx, toZ-ofZ fl) at e in
       let u : leZ least x ≡ true = omega flags in
       rw (toZ-ofZ fx, toZ-ofZ fg, u)
+
+-- Below the least, above the most, and from the one to the other.
+module _ (least most m : ℕ) where
+  pub too-few : m < least → not (leb least m && leb m most) ≡ true
+  too-few l = rw (lt-leb least m l)
+
+  pub too-many : least ≤ m → most < m → not (leb least m && leb m most) ≡ true
+  too-many l k = rw (le-leb least m l, lt-leb m most k)
+
+  pub neither : least ≤ m → m ≤ most → not (leb least m && leb m most) ≡ false
+  neither l k = rw (le-leb least m l, le-leb m most k)
 
 -- Of the first i items, all says whether every one passes the test.
 pub record Through {A : Type 0} (test : A → Bool) (xs : List A) (i : ℕ) (all : Bool) : Type 0 where

@@ -1,9 +1,11 @@
-// The public calls, a file for each: build, check, list, screen, explain, the test of one point, and the three that make a point from a reading. Each makes its
-// refusal tests first, then does the work. These nine exports and the version are all that is public; they take any numbers and any lent memory.
+// The public calls, a file for each: build, check, list, list of several regions, screen, explain, the test of one point, and the three that make a point
+// from a reading. Each makes its refusal tests first, then does the work. These ten exports and the version are all that is public; they take any numbers
+// and any lent memory.
 pub mod build;
 pub mod check;
 pub mod explain;
 pub mod list;
+pub mod list_regions;
 pub mod place;
 pub mod point;
 mod ranges;

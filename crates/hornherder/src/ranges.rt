@@ -1,4 +1,4 @@
-// Whether numbers lie in a range: coordinates and components, offsets in a wider type, marks in a narrower.
+// Whether numbers lie in a range: coordinates and components, offsets in a wider type, marks in a narrower; and face counts.
 ghost use mathlib.Core.Path.{_≡_};
 ghost use lib.Dec.{leb};
 ghost use Rattle.terms.specs.Tests.{every};
@@ -57,6 +57,19 @@ pub fn all_marks(marks: &[u8], greatest: u8) -> bool
     let mut all = true;
     for i in 0..marks.len() {
         if greatest < marks[i] {
+            all = false;
+        }
+    }
+    all
+}
+
+// Whether every face count is at most the greatest.
+pub fn all_at_most(counts: &[u32], greatest: u32) -> bool
+    ensures { λ r. ⌜ r ≡ every (λ h. leb h greatest) (now (counts .entry)) ⌝ }
+{
+    let mut all = true;
+    for i in 0..counts.len() {
+        if greatest < counts[i] {
             all = false;
         }
     }

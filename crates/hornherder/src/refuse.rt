@@ -1,5 +1,6 @@
 // The refusal tests, a function for each number that returns it where a test of its group holds, or 0; and the two groups that several calls make
 // together, the stock's shape and the faces.
+use crate::ranges::all_at_most;
 use crate::ranges::all_marks;
 use crate::ranges::all_within;
 use crate::ranges::all_within_wide;
@@ -16,12 +17,15 @@ ghost use Rattle.terms.specs.Refusals.{
   roomRefusals,
   coordinateRefusals,
   faceCountRefusals,
+  faceCountsRefusals,
   faceLengthRefusals,
   faceRangeRefusals,
   markRefusals,
   treeRefusals,
   numberRefusals,
+  regionCountRefusals,
   stockRefusals,
+  faceSliceRefusals,
   faceRefusals,
 };
 ghost use Rattle.theory.specs.Tested.{TestedPoints};
@@ -90,10 +94,20 @@ fn face_count_refusal(h: usize) -> u32
     0
 }
 
-// 7 where the normals are not k times h, or the offsets not h.
+// 6 where a region has over 32 faces.
+pub fn face_counts_refusal(face_counts: &[u32]) -> u32
+    ensures { λ r. ⌜ First (faceCountsRefusals (now («face_counts» .entry))) r ⌝ }
+{
+    if !all_at_most(face_counts, 32) {
+        return 6;
+    }
+    0
+}
+
+// 7 where the normals are not k times h, or the offsets not h. Joined faces are at most 64 times 32.
 fn face_length_refusal(k: usize, h: usize, normals: &[i32], offsets: &[i64]) -> u32
     requires { ⌜ k ≤ 4 ⌝ }
-    requires { ⌜ h ≤ 32 ⌝ }
+    requires { ⌜ h ≤ 2048 ⌝ }
     ensures { λ r. ⌜ First (faceLengthRefusals k h (now (normals .entry)) (now (offsets .entry))) r ⌝ }
 {
     if normals.len() != k * h {
@@ -154,6 +168,22 @@ pub fn number_refusal(n: usize, number: u32) -> u32
     0
 }
 
+// 14 where the region count is not 1 to 64, or the face counts are not as many.
+pub fn region_count_refusal(regions: usize, face_counts: &[u32]) -> u32
+    ensures { λ r. ⌜ First (regionCountRefusals regions (now («face_counts» .entry))) r ⌝ }
+{
+    if regions < 1 {
+        return 14;
+    }
+    if 64 < regions {
+        return 14;
+    }
+    if face_counts.len() != regions {
+        return 14;
+    }
+    0
+}
+
 // The first of 1, 2 and 3 that holds of the stock, or 0.
 pub fn stock_refusal(k: usize, n: usize, points: &[i32]) -> u32
     ensures { λ r. ⌜ First (stockRefusals (stock k n (now (points .entry)))) r ⌝ }
@@ -169,15 +199,12 @@ pub fn stock_refusal(k: usize, n: usize, points: &[i32]) -> u32
     length_refusal(k * n, points)
 }
 
-// The first of 6, 7, 8 and 11 that holds of the faces, or 0.
-pub fn face_refusal(k: usize, h: usize, normals: &[i32], offsets: &[i64], marks: &[u8]) -> u32
+// The first of 7, 8 and 11 that holds of the faces' slices, or 0.
+pub fn face_slice_refusal(k: usize, h: usize, normals: &[i32], offsets: &[i64], marks: &[u8]) -> u32
     requires { ⌜ k ≤ 4 ⌝ }
-    ensures { λ r. ⌜ First (faceRefusals k (faces h (now (normals .entry)) (now (offsets .entry)) (now (marks .entry)))) r ⌝ }
+    requires { ⌜ h ≤ 2048 ⌝ }
+    ensures { λ r. ⌜ First (faceSliceRefusals k (faces h (now (normals .entry)) (now (offsets .entry)) (now (marks .entry)))) r ⌝ }
 {
-    let count = face_count_refusal(h);
-    if count != 0 {
-        return count;
-    }
     let length = face_length_refusal(k, h, normals, offsets);
     if length != 0 {
         return length;
@@ -187,4 +214,16 @@ pub fn face_refusal(k: usize, h: usize, normals: &[i32], offsets: &[i64], marks:
         return range;
     }
     mark_refusal(h, marks)
+}
+
+// The first of 6, 7, 8 and 11 that holds of the faces, or 0.
+pub fn face_refusal(k: usize, h: usize, normals: &[i32], offsets: &[i64], marks: &[u8]) -> u32
+    requires { ⌜ k ≤ 4 ⌝ }
+    ensures { λ r. ⌜ First (faceRefusals k (faces h (now (normals .entry)) (now (offsets .entry)) (now (marks .entry)))) r ⌝ }
+{
+    let count = face_count_refusal(h);
+    if count != 0 {
+        return count;
+    }
+    face_slice_refusal(k, h, normals, offsets, marks)
 }

@@ -21,7 +21,7 @@ use Rattle.terms.specs.declared.Explaining.{Explaining}
 use Rattle.terms.specs.declared.Reason.{Reason}
 use Rattle.terms.specs.declared.Reason.the-variants.{OutsideWithBranch}
 use Rattle.terms.specs.Tests.{count, every, keep, allTo, anyTo, lowestTo, rising}
-use Rattle.terms.specs.Lent.{Stock, Order, Faces, stock, orderOf, faces}
+use Rattle.terms.specs.Lent.{Stock, Order, Faces, Regions, stock, orderOf, faces, regions}
 use Rattle.terms.specs.Points.{coord, pointOf, slotsOf}
 use Rattle.terms.specs.Before.{before}
 use Rattle.terms.specs.Tree.{treeRun, eachOnce, isTree, shelfRun, isShelf}
@@ -36,6 +36,8 @@ use Rattle.terms.specs.Refusals.{firstOf}
 use Rattle.terms.specs.BuildCall.{Built, buildAnswer}
 use Rattle.terms.specs.CheckCall.{checkAnswer}
 use Rattle.terms.specs.ListCall.{listCode, listAnswer, listAfter}
+use Rattle.terms.specs.EndToEnd.{endToEnd}
+use Rattle.terms.specs.ListRegionsCall.{listRegionsCode, listsAfter, countsAfter}
 use Rattle.terms.specs.Screen.{insideSlots, upToFirst, screenVisits}
 use Rattle.terms.specs.Margin.{leastTo, lowestLeast}
 use Rattle.terms.specs.ScreenCall.{screenCode, screenAnswer}
@@ -80,6 +82,7 @@ pub data Row : Type 0 where
   builds : Shelf → (answer : ℕ) (after : List ℕ) → Row
   checks : Shelf → (answer : ℕ) → Row
   lists : Shelf → Faces → (list : List ℕ) (answer : Listing) (after : List ℕ) → Row
+  listsRegions : Shelf → Regions → (listBuffer countsBuffer : List ℕ) (answer : ℕ) (afterLists afterCounts : List ℕ) → Row
   screens : Shelf → Faces → Screening → Row
   explains : Shelf → Faces → (number : ℕ) → Explaining → Row
   reasons : Shelf → Faces → (number : ℕ) → Reason → Row
@@ -98,6 +101,10 @@ Holds (builds s answer after) = Built (s .lent) (s .arranged) answer (orderOf af
 Holds (checks s answer) = checkAnswer (s .lent) (s .arranged) ≡ answer
 Holds (lists s f list answer after) =
     (listAnswer (s .lent) (s .arranged) f list ≡ answer) × (listAfter (s .lent) (s .arranged) f list ≡ after)
+Holds (listsRegions s g listBuffer countsBuffer answer afterLists afterCounts) =
+    (listRegionsCode (s .lent) (s .arranged) g listBuffer countsBuffer ≡ answer)
+    × (listsAfter (s .lent) (s .arranged) g listBuffer countsBuffer ≡ afterLists)
+    × (countsAfter (s .lent) (s .arranged) g listBuffer countsBuffer ≡ afterCounts)
 Holds (screens s f answer) = screenAnswer (s .lent) (s .arranged) f ≡ answer
 Holds (explains s f number answer) = explainAnswer (s .lent) (s .arranged) f number ≡ answer
 Holds (reasons s f number why) = ReasonFor (cut s f) (pointOf (s .lent)) (slots s) number why
@@ -1245,6 +1252,130 @@ reason-nearest-the-root = reasons shelfA rightOfEight 1 (OutsideWithBranch 3 0 (
 abbrev pub reason-lowest-face : Row
 reason-lowest-face = reasons shelfA fiveAndSix 1 (OutsideWithBranch 1 0 (minus 1))
 
+-- ---- several regions
+
+-- Regions whose faces are all closed.
+abbrev closedRegions : ℕ → List ℕ → List ℤ → List ℤ → Regions
+closedRegions count faceCounts normals offsets = regions count faceCounts normals offsets (replicate (length offsets) 0)
+
+-- A call on several regions that is refused: both buffers stay.
+abbrev refusesRegions : Shelf → Regions → (listBuffer countsBuffer : List ℕ) (answer : ℕ) → Row
+refusesRegions s g listBuffer countsBuffer answer = listsRegions s g listBuffer countsBuffer answer listBuffer countsBuffer
+
+-- The two faces of example 2, no faces as in example 6, and the face of example 3.
+abbrev threeRegions : Regions
+threeRegions = closedRegions 3 (2 ∷ 0 ∷ 1 ∷ []) (pos 1 ∷ pos 1 ∷ minus 1 ∷ pos 0 ∷ pos 1 ∷ pos 0 ∷ []) (pos 7 ∷ minus 6 ∷ pos 5 ∷ [])
+
+-- Region after region what those examples give; the later places of both buffers stay.
+abbrev pub regions-three : Row
+regions-three = listsRegions shelfA threeRegions (replicate 19 9) (replicate 10 8) 0
+    (2 ∷ 4 ∷ 3 ∷ 0 ∷ 5 ∷ 1 ∷ 1 ∷ 5 ∷ 0 ∷ 2 ∷ 3 ∷ 4 ∷ 3 ∷ 4 ∷ 2 ∷ 0 ∷ 5 ∷ 1 ∷ 9 ∷ [])
+    (2 ∷ 4 ∷ 5 ∷ 6 ∷ 0 ∷ 0 ∷ 2 ∷ 4 ∷ 3 ∷ 8 ∷ [])
+
+-- One region alone.
+abbrev pub regions-one : Row
+regions-one = listsRegions pair (closedRegions 1 (1 ∷ []) (pos 1 ∷ []) (pos 5 ∷ [])) (7 ∷ 7 ∷ []) (7 ∷ 7 ∷ 7 ∷ []) 0 (1 ∷ 0 ∷ []) (1 ∷ 1 ∷ 2 ∷ [])
+
+-- Face 1, m 10, closed in the first region and open in the second.
+abbrev sameFaceTwice : Regions
+sameFaceTwice = regions 2 (1 ∷ 1 ∷ []) (pos 1 ∷ pos 1 ∷ []) (pos 10 ∷ pos 10 ∷ []) (0 ∷ 1 ∷ [])
+
+-- The point on the face is inside the first and outside the second, whose root box is wholly below.
+abbrev pub regions-with-marks : Row
+regions-with-marks = listsRegions pair sameFaceTwice (7 ∷ 7 ∷ 7 ∷ 7 ∷ []) (replicate 6 7) 0 (1 ∷ 0 ∷ 1 ∷ 0 ∷ []) (1 ∷ 1 ∷ 2 ∷ 0 ∷ 2 ∷ 0 ∷ [])
+
+-- 64 regions are not too many; of the empty shelf each counts nothing.
+abbrev pub regions-most : Row
+regions-most = listsRegions empty (closedRegions 64 (replicate 64 0) [] []) [] (replicate 192 7) 0 [] (replicate 192 0)
+
+-- 65 regions are.
+abbrev pub regions-refuse-65 : Row
+regions-refuse-65 = refusesRegions empty (closedRegions 65 (replicate 65 0) [] []) [] (replicate 195 7) 14
+
+-- No regions.
+abbrev noRegions : Regions
+noRegions = closedRegions 0 [] [] []
+
+-- No regions are too few.
+abbrev pub regions-refuse-none : Row
+regions-refuse-none = refusesRegions pair noRegions (7 ∷ 7 ∷ []) (7 ∷ 7 ∷ 7 ∷ []) 14
+
+-- Two regions with one face count.
+abbrev countMissing : Regions
+countMissing = closedRegions 2 (0 ∷ []) [] []
+
+-- 14 for a face count too few, before 4 for short buffers.
+abbrev pub regions-refuse-count-before-room : Row
+regions-refuse-count-before-room = refusesRegions pair countMissing [] [] 14
+
+-- 14 for a face count too many.
+abbrev pub regions-refuse-extra-count : Row
+regions-refuse-extra-count = refusesRegions pair (closedRegions 1 (0 ∷ 0 ∷ []) [] []) (replicate 4 7) (replicate 6 7) 14
+
+-- 1 of a call on several regions, before 2.
+abbrev pub regions-refuse-dimension : Row
+regions-refuse-dimension = refusesRegions fiveDimensions noRegions [] [] 1
+
+-- 2 of a call on several regions, before 3.
+abbrev pub regions-refuse-n : Row
+regions-refuse-n = refusesRegions tooMany noRegions [] [] 2
+
+-- 3 before 14.
+abbrev pub regions-refuse-points-before-count : Row
+regions-refuse-points-before-count = refusesRegions wrongPoints noRegions [] [] 3
+
+-- One region with 33 faces, none of which is lent.
+abbrev tooManyInOne : Regions
+tooManyInOne = closedRegions 1 (33 ∷ []) [] []
+
+-- 4 for a short order, before 5.
+abbrev pub regions-refuse-short-order : Row
+regions-refuse-short-order = refusesRegions shortOrder tooManyInOne (7 ∷ 7 ∷ []) (7 ∷ 7 ∷ 7 ∷ []) 4
+
+-- 4 for a list buffer one place short of n a region.
+abbrev pub regions-refuse-short-lists : Row
+regions-refuse-short-lists = refusesRegions shelfA threeRegions (replicate 17 9) (replicate 9 8) 4
+
+-- 4 for a counts buffer one place short of 3 a region.
+abbrev pub regions-refuse-short-counts : Row
+regions-refuse-short-counts = refusesRegions shelfA threeRegions (replicate 18 9) (replicate 8 8) 4
+
+-- 5 before 6.
+abbrev pub regions-refuse-coordinate : Row
+regions-refuse-coordinate = refusesRegions coordinateTooHigh tooManyInOne (7 ∷ 7 ∷ []) (7 ∷ 7 ∷ 7 ∷ []) 5
+
+-- 6 for the second region alone, before 7.
+abbrev pub regions-refuse-h : Row
+regions-refuse-h = refusesRegions pair (closedRegions 2 (0 ∷ 33 ∷ []) [] []) (replicate 4 7) (replicate 6 7) 6
+
+-- 6 for face counts whose sum would be 0 if it were taken in 32 bits.
+abbrev pub regions-refuse-h-unsummed : Row
+regions-refuse-h-unsummed = refusesRegions pair (closedRegions 2 (2147483648 ∷ 2147483648 ∷ []) [] []) (replicate 4 7) (replicate 6 7) 6
+
+-- 7 for joined normals that are one short, before 8.
+abbrev pub regions-refuse-normals : Row
+regions-refuse-normals = refusesRegions pair (closedRegions 2 (1 ∷ 1 ∷ []) (pos 1 ∷ []) (pos 9000000000 ∷ pos 5 ∷ [])) (replicate 4 7) (replicate 6 7) 7
+
+-- 7 for a joined offset too many.
+abbrev pub regions-refuse-offsets : Row
+regions-refuse-offsets = refusesRegions pair (closedRegions 2 (1 ∷ 0 ∷ []) (pos 1 ∷ []) (pos 5 ∷ pos 5 ∷ [])) (replicate 4 7) (replicate 6 7) 7
+
+-- 8 for a component of the second region, before 11.
+abbrev pub regions-refuse-component : Row
+regions-refuse-component = refusesRegions pair (regions 2 (1 ∷ 1 ∷ []) (pos 1 ∷ pos 32768 ∷ []) (pos 5 ∷ pos 5 ∷ []) []) (replicate 4 7) (replicate 6 7) 8
+
+-- 11 for a mark of the second region, before 9.
+abbrev pub regions-refuse-mark : Row
+regions-refuse-mark = refusesRegions pairSwapped (regions 2 (1 ∷ 1 ∷ []) (pos 1 ∷ pos 1 ∷ []) (pos 5 ∷ pos 5 ∷ []) (0 ∷ 2 ∷ [])) (replicate 4 7) (replicate 6 7) 11
+
+-- 11 for a joined mark too few.
+abbrev pub regions-refuse-missing-mark : Row
+regions-refuse-missing-mark = refusesRegions pair (regions 2 (1 ∷ 1 ∷ []) (pos 1 ∷ pos 1 ∷ []) (pos 5 ∷ pos 5 ∷ []) (0 ∷ [])) (replicate 4 7) (replicate 6 7) 11
+
+-- 9 last; both buffers stay.
+abbrev pub regions-refuse-order : Row
+regions-refuse-order = refusesRegions pairSwapped sameFaceTwice (replicate 5 7) (replicate 7 8) 9
+
 -- ---- the statement
 
 -- The table.
@@ -1425,6 +1556,29 @@ table =
     ∷ explain-refuses-number-of-none
     ∷ reason-nearest-the-root
     ∷ reason-lowest-face
+    ∷ regions-three
+    ∷ regions-one
+    ∷ regions-with-marks
+    ∷ regions-most
+    ∷ regions-refuse-65
+    ∷ regions-refuse-none
+    ∷ regions-refuse-count-before-room
+    ∷ regions-refuse-extra-count
+    ∷ regions-refuse-dimension
+    ∷ regions-refuse-n
+    ∷ regions-refuse-points-before-count
+    ∷ regions-refuse-short-order
+    ∷ regions-refuse-short-lists
+    ∷ regions-refuse-short-counts
+    ∷ regions-refuse-coordinate
+    ∷ regions-refuse-h
+    ∷ regions-refuse-h-unsummed
+    ∷ regions-refuse-normals
+    ∷ regions-refuse-offsets
+    ∷ regions-refuse-component
+    ∷ regions-refuse-mark
+    ∷ regions-refuse-missing-mark
+    ∷ regions-refuse-order
     ∷ []
 
 -- The reason of number 1 where the root is settled: no branch is nearer.
@@ -1467,7 +1621,7 @@ left-below = record {
 
 -- Every row holds of the calls as they are defined.
 pub examples-hold : All table
-unfolding lesser greater sumTo totalTo count every keep allTo anyTo rising before treeRun eachOnce isTree leastFrom greatestFrom rootBox boxes aboveAt inside isSettled isOpen openSlots visits digitsWithin digits S isSquare firstOf buildAnswer checkAnswer listCode listAnswer listAfter insideSlots upToFirst screenVisits leastTo lowestLeast screenCode screenAnswer placeCode placeAnswer ofBits inRange coordinateOf gives pointCode pointAnswer pointAfter lowestTo ownReason branchReason reasonIn reasonOf explainCode explainAnswer
+unfolding lesser greater sumTo totalTo count every keep allTo anyTo rising before treeRun eachOnce isTree leastFrom greatestFrom rootBox boxes aboveAt inside isSettled isOpen openSlots visits digitsWithin digits S isSquare firstOf buildAnswer checkAnswer listCode listAnswer listAfter endToEnd listRegionsCode listsAfter countsAfter insideSlots upToFirst screenVisits leastTo lowestLeast screenCode screenAnswer placeCode placeAnswer ofBits inRange coordinateOf gives pointCode pointAnswer pointAfter lowestTo ownReason branchReason reasonIn reasonOf explainCode explainAnswer
 examples-hold =
     example-1-build by built refl refl refl refl
     also example-1-check by refl
@@ -1644,4 +1798,27 @@ examples-hold =
     also explain-refuses-number-of-none by refl
     also reason-nearest-the-root by root-below
     also reason-lowest-face by left-below
+    also regions-three by (refl, refl, refl)
+    also regions-one by (refl, refl, refl)
+    also regions-with-marks by (refl, refl, refl)
+    also regions-most by (refl, refl, refl)
+    also regions-refuse-65 by (refl, refl, refl)
+    also regions-refuse-none by (refl, refl, refl)
+    also regions-refuse-count-before-room by (refl, refl, refl)
+    also regions-refuse-extra-count by (refl, refl, refl)
+    also regions-refuse-dimension by (refl, refl, refl)
+    also regions-refuse-n by (refl, refl, refl)
+    also regions-refuse-points-before-count by (refl, refl, refl)
+    also regions-refuse-short-order by (refl, refl, refl)
+    also regions-refuse-short-lists by (refl, refl, refl)
+    also regions-refuse-short-counts by (refl, refl, refl)
+    also regions-refuse-coordinate by (refl, refl, refl)
+    also regions-refuse-h by (refl, refl, refl)
+    also regions-refuse-h-unsummed by (refl, refl, refl)
+    also regions-refuse-normals by (refl, refl, refl)
+    also regions-refuse-offsets by (refl, refl, refl)
+    also regions-refuse-component by (refl, refl, refl)
+    also regions-refuse-mark by (refl, refl, refl)
+    also regions-refuse-missing-mark by (refl, refl, refl)
+    also regions-refuse-order by (refl, refl, refl)
     also nothing-left

@@ -1,4 +1,4 @@
--- What a caller lends, as one record each: the stock, the order, the faces. The contracts of the calls put them together from the lent slices.
+-- What a caller lends, as one record each: the stock, the order, the faces, the regions. The contracts of the calls put them together from the lent slices.
 use mathlib.Core.List.{List}
 use Prim.Native.Nat.{ℕ}
 use lib.ListN.{length}
@@ -21,6 +21,14 @@ pub record Faces : Type 0 where
   pub offsets : List ℤ
   pub marks : List ℕ
 
+-- The regions: so many, a face count for each, and their faces end to end.
+pub record Regions : Type 0 where
+  pub regionCount : ℕ
+  pub faceCounts : List ℕ
+  pub normals : List ℤ
+  pub offsets : List ℤ
+  pub marks : List ℕ
+
 -- The stock as a call is handed it.
 abbrev pub stock : ℕ → ℕ → List ℤ → Stock
 stock k n points = record { k = k; n = n; points = points }
@@ -36,3 +44,12 @@ faces h normals offsets marks = record { h = h; normals = normals; offsets = off
 -- Faces that were tested are as many as their offsets.
 abbrev pub facesOf : List ℤ → List ℤ → List ℕ → Faces
 facesOf normals offsets marks = faces (length offsets) normals offsets marks
+
+-- The regions as a call is handed them.
+abbrev pub regions : ℕ → List ℕ → List ℤ → List ℤ → List ℕ → Regions
+regions regionCount faceCounts normals offsets marks =
+    record { regionCount = regionCount; faceCounts = faceCounts; normals = normals; offsets = offsets; marks = marks }
+
+-- Regions that were tested are as many as their face counts.
+abbrev pub regionsOf : List ℕ → List ℤ → List ℤ → List ℕ → Regions
+regionsOf faceCounts normals offsets marks = regions (length faceCounts) faceCounts normals offsets marks

@@ -8,11 +8,14 @@ pub mod Box
 pub mod Region
 pub mod Visits
 pub mod Lists
+pub mod ThreeCounts
 pub mod Screen
 pub mod Margin
 pub mod Branches
 pub mod Reason
 pub mod Explain
+pub mod EndToEnd
+pub mod RegionFaces
 pub mod Bound
 pub mod Value
 pub mod Reading
@@ -20,6 +23,7 @@ pub mod Refusals
 pub mod BuildCall
 pub mod CheckCall
 pub mod ListCall
+pub mod ListRegionsCall
 pub mod ScreenCall
 pub mod ExplainCall
 pub mod PlaceCall

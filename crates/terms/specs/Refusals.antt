@@ -52,6 +52,10 @@ coordinateRefusals points = record { number = 5; holds = not (every isCoordinate
 abbrev pub faceCountRefusals : ℕ → List Refusal
 faceCountRefusals h = record { number = 6; holds = ltb 32 h } ∷ []
 
+-- 6: a region has over 32 faces.
+abbrev pub faceCountsRefusals : List ℕ → List Refusal
+faceCountsRefusals faceCounts = record { number = 6; holds = not (every (λ h. leb h 32) faceCounts) } ∷ []
+
 -- 7: the normals are not k times h, or the offsets not h.
 abbrev pub faceLengthRefusals : ℕ → ℕ → List ℤ → List ℤ → List Refusal
 faceLengthRefusals k h normals offsets =
@@ -78,17 +82,25 @@ valueRefusals r = record { number = 12; holds = not (allInRange r) } ∷ []
 abbrev pub numberRefusals : Stock → ℕ → List Refusal
 numberRefusals s p = record { number = 13; holds = not (belongsTo s p) } ∷ []
 
+-- 14: the region count is not 1 to 64, or the face counts are not as many.
+abbrev pub regionCountRefusals : ℕ → List ℕ → List Refusal
+regionCountRefusals regions faceCounts =
+    record { number = 14; holds = not (leb 1 regions && leb regions 64) } ∷ record { number = 14; holds = notLong regions faceCounts } ∷ []
+
 -- The stock's shape: 1, 2 and 3.
 abbrev pub stockRefusals : Stock → List Refusal
 stockRefusals s = dimensionRefusals (s .k) ++ sizeRefusals (s .n) ++ lengthRefusals (s .k * s .n) (s .points)
 
--- The faces: 6, 7, 8 and 11.
-abbrev pub faceRefusals : ℕ → Faces → List Refusal
-faceRefusals k f =
-    faceCountRefusals (f .h)
-    ++ faceLengthRefusals k (f .h) (f .normals) (f .offsets)
+-- The lent slices of the faces: 7, 8 and 11.
+abbrev pub faceSliceRefusals : ℕ → Faces → List Refusal
+faceSliceRefusals k f =
+    faceLengthRefusals k (f .h) (f .normals) (f .offsets)
     ++ faceRangeRefusals (f .normals) (f .offsets)
     ++ markRefusals (f .h) (f .marks)
+
+-- The faces: 6, 7, 8 and 11.
+abbrev pub faceRefusals : ℕ → Faces → List Refusal
+faceRefusals k f = faceCountRefusals (f .h) ++ faceSliceRefusals k f
 
 -- The first value where the number is 0, done; the second where it is a refusal.
 abbrev pub ifDone : {A : Type 0} → ℕ → A → A → A

@@ -6,8 +6,8 @@ use Prim.Native.Nat.{ℕ, zero, suc, _+_, _≤_, _<_}
 use native.Mathlib.Nat.{not-suc-le-zero, le-of-suc-le-suc}
 use native.Mathlib.Numerals.{add-one}
 use native.Mathlib.Omega.{arith}
-use lib.ListN.{length, getD, take, drop, set, length-set, take-append-drop}
-use lib.Seq.{take-suc}
+use lib.ListN.{length, getD, take, drop, set, length-set, length-take, length-drop, take-append-drop}
+use lib.Seq.{take-suc, getD-take, getD-drop}
 use lib.Dec.{eqb}
 use borrow.Author.Tests.{eq-eqb}
 use Rattle.terms.specs.Tests.{bit, count, every, keep, pick}
@@ -24,6 +24,14 @@ pub at-every : {A : Type 0} (test : A → Bool) (z : A) (xs : List A) → ((i : 
 unfolding every
 at-every test z [] e = refl
 at-every test z (x ∷ xs) e = true-and (e 0 (omega arith)) (at-every test z xs (λ i l. e (suc i) (omega arith)))
+
+-- What every item passes, the items of a part pass.
+pub every-part : {A : Type 0} (z : A) (test : A → Bool) (a c : ℕ) (xs : List A) → every test xs ≡ true → every test (take c (drop a xs)) ≡ true
+every-part z test a c xs e = at-every test z (take c (drop a xs))
+    (λ i l.
+    let m : i < c = omega (arith, length-take c (drop a xs)) in
+    let room : a + i < length xs = omega (arith, length-take c (drop a xs), length-drop a xs) in
+    rw (getD-take c (drop a xs) i z m, getD-drop a xs i z) (every-at test z xs e (a + i) room))
 
 pub bit-le : (t : Bool) → bit t ≤ 1
 bit-le true = omega arith

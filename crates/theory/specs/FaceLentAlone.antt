@@ -1,12 +1,11 @@
 -- A face lent alone: its components, its offset and its mark cut out of the lent lists. As a region these are the face taken alone, so its visits are the
 -- same; and where the call on all faces is done, the call on the one is.
 use mathlib.Core.Path.{_≡_, refl, sym, ap, _∙_}
-use mathlib.Core.Bool.{Bool, true}
 use mathlib.Core.List.{List, [], _∷_}
 use Prim.Native.Nat.{ℕ, _+_, _*_, _≤_, _<_}
 use native.Mathlib.Nat.{mul-le-mul-right, suc-mul}
 use native.Mathlib.Omega.{arith}
-use lib.ListN.{length, getD, take, drop, length-take, length-drop}
+use lib.ListN.{length, getD, take, drop, length-drop}
 use lib.Seq.{getD-take, getD-drop, length-take-le}
 use lib.IntN.{ℤ, pos, _*ℤ_}
 use Rattle.whole.specs.IndexedSum.{sum-same}
@@ -17,7 +16,7 @@ use Rattle.terms.specs.Region.{region, alone, above, aboveAt, bySign, isSettled
 use Rattle.terms.specs.Visits.{visits}
 use Rattle.terms.specs.Refusals.{faceRefusals}
 use Rattle.terms.specs.ListCall.{listCode}
-use Rattle.theory.specs.Counting.{every-at, at-every, count-same}
+use Rattle.theory.specs.Counting.{every-at, every-part, count-same}
 use Rattle.theory.specs.AboveIsUpward.{above-same-face, above-alone}
 use Rattle.theory.specs.BoxFuel.{visits-count}
 use Rattle.theory.specs.FirstRefusal.{Passed}
@@ -57,33 +56,27 @@ module _ (k : ℕ) (f : Faces) (i : ℕ) where
       ∙ count-same (rootBox at run) _ _ (shelfBoxes k at run) (λ s l. lent-open (getD (shelfBoxes k at run) s (rootBox at run)))
       ∙ sym (visits-count (alone (region k f) i) at run)
 
--- What every item passes, the items of a part pass.
-every-part : {A : Type 0} (z : A) (test : A → Bool) (a c : ℕ) (xs : List A) → every test xs ≡ true → every test (take c (drop a xs)) ≡ true
-every-part z test a c xs e = at-every test z (take c (drop a xs))
-    (λ i l.
-    let m : i < c = omega (arith, length-take c (drop a xs)) in
-    let room : a + i < length xs = omega (arith, length-take c (drop a xs), length-drop a xs) in
-    rw (getD-take c (drop a xs) i z m, getD-drop a xs i z) (every-at test z xs e (a + i) room))
-
 -- Faces that were passed are passed one by one.
 face-alone-passed : (k : ℕ) (f : Faces) → Passed (faceRefusals k f) → (i : ℕ) → i < f .h → Passed (faceRefusals k (faceAlone k f i))
 unfolding every
 face-alone-passed k f w i l =
-    let t = faces-fit k f w in
+    let t = faces-fit k f w .slices in
     let size = t .sized .normals-size in
     let room : k ≤ length (drop (i * k) (f .normals)) = omega (arith, length-drop (i * k) (f .normals), mul-le-mul-right k l, suc-mul i k) in
     let offset = every-at isOffset (pos 0) (f .offsets) (t .offsets-range) i (omega (arith, t .sized .offsets-size)) in
     let mark = every-at isMark 0 (f .marks) (t .marks-range) i (omega (arith, t .sized .marks-size)) in
     fit-faces k (faceAlone k f i) (record {
       many = omega arith;
-      sized = record {
-        normals-size = omega (arith, length-take-le k (drop (i * k) (f .normals)) room);
-        offsets-size = refl;
-        marks-size = refl;
+      slices = record {
+        sized = record {
+          normals-size = omega (arith, length-take-le k (drop (i * k) (f .normals)) room);
+          offsets-size = refl;
+          marks-size = refl;
+        };
+        components = every-part (pos 0) isComponent (i * k) k (f .normals) (t .components);
+        offsets-range = rw offset;
+        marks-range = rw mark;
       };
-      components = every-part (pos 0) isComponent (i * k) k (f .normals) (t .components);
-      offsets-range = rw offset;
-      marks-range = rw mark;
     })
 
 -- Where the list call on all faces is done, so is the one on a face alone.

@@ -20,6 +20,9 @@ pub mod RefusalsPassed
 pub mod BuildCall
 pub mod CheckCall
 pub mod ListCall
+pub mod EndToEnd
+pub mod RegionFaces
+pub mod ListRegionsCall
 pub mod ScreenCall
 pub mod PlaceCall
 pub mod AboveIsUpward

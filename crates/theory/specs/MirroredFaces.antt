@@ -152,21 +152,24 @@ record BinFits (k : ℕ) (a : Faces) (f : Face) : Type 0 where
 bin-fits : (k : ℕ) (a : Faces) (f : Face) → length (f .normal) ≡ k → FacesFit k (withFace a f) → BinFits k a f
 unfolding every
 bin-fits k a f e w =
-    let c = and-true (every isComponent (a .normals)) (sym (every-append isComponent (a .normals) (f .normal)) ∙ w .components) in
-    let o = and-true (every isOffset (a .offsets)) (sym (every-append isOffset (a .offsets) (f .offset ∷ [])) ∙ w .offsets-range) in
-    let m = and-true (every isMark (a .marks)) (sym (every-append isMark (a .marks) (f .mark ∷ [])) ∙ w .marks-range) in
+    let s = w .slices in
+    let c = and-true (every isComponent (a .normals)) (sym (every-append isComponent (a .normals) (f .normal)) ∙ s .components) in
+    let o = and-true (every isOffset (a .offsets)) (sym (every-append isOffset (a .offsets) (f .offset ∷ [])) ∙ s .offsets-range) in
+    let m = and-true (every isMark (a .marks)) (sym (every-append isMark (a .marks) (f .mark ∷ [])) ∙ s .marks-range) in
     record {
       room = w .many;
       others = record {
         many = omega (arith, w .many);
-        sized = record {
-          normals-size = omega (arith, w .sized .normals-size, length-append (a .normals) (f .normal));
-          offsets-size = omega (arith, w .sized .offsets-size, length-append (a .offsets) (f .offset ∷ []));
-          marks-size = omega (arith, w .sized .marks-size, length-append (a .marks) (f .mark ∷ []));
+        slices = record {
+          sized = record {
+            normals-size = omega (arith, s .sized .normals-size, length-append (a .normals) (f .normal));
+            offsets-size = omega (arith, s .sized .offsets-size, length-append (a .offsets) (f .offset ∷ []));
+            marks-size = omega (arith, s .sized .marks-size, length-append (a .marks) (f .mark ∷ []));
+          };
+          components = c .0;
+          offsets-range = o .0;
+          marks-range = m .0;
         };
-        components = c .0;
-        offsets-range = o .0;
-        marks-range = m .0;
       };
       own = record {
         size = e;
@@ -178,18 +181,22 @@ bin-fits k a f e w =
 
 fits-bin : (k : ℕ) (a : Faces) (f : Face) → BinFits k a f → FacesFit k (withFace a f)
 unfolding every
-fits-bin k a f w = record {
-  many = w .room;
-  sized = record {
-    normals-size = omega (arith, w .others .sized .normals-size, w .own .size, length-append (a .normals) (f .normal));
-    offsets-size = omega (arith, w .others .sized .offsets-size, length-append (a .offsets) (f .offset ∷ []));
-    marks-size = omega (arith, w .others .sized .marks-size, length-append (a .marks) (f .mark ∷ []));
-  };
-  components = every-append isComponent (a .normals) (f .normal) ∙ true-and (w .others .components) (w .own .components);
-  offsets-range = every-append isOffset (a .offsets) (f .offset ∷ []) ∙ true-and (w .others .offsets-range) (true-and (w .own .offset-range) refl);
-  marks-range = every-append isMark (a .marks) (f .mark ∷ [])
-      ∙ true-and (w .others .marks-range) (true-and (le-leb (f .mark) 1 (w .own .mark-range)) refl);
-}
+fits-bin k a f w =
+    let s = w .others .slices in
+    record {
+      many = w .room;
+      slices = record {
+        sized = record {
+          normals-size = omega (arith, s .sized .normals-size, w .own .size, length-append (a .normals) (f .normal));
+          offsets-size = omega (arith, s .sized .offsets-size, length-append (a .offsets) (f .offset ∷ []));
+          marks-size = omega (arith, s .sized .marks-size, length-append (a .marks) (f .mark ∷ []));
+        };
+        components = every-append isComponent (a .normals) (f .normal) ∙ true-and (s .components) (w .own .components);
+        offsets-range = every-append isOffset (a .offsets) (f .offset ∷ []) ∙ true-and (s .offsets-range) (true-and (w .own .offset-range) refl);
+        marks-range = every-append isMark (a .marks) (f .mark ∷ [])
+            ∙ true-and (s .marks-range) (true-and (le-leb (f .mark) 1 (w .own .mark-range)) refl);
+      };
+    }
 
 -- A range from -b to b has with each number the negated one.
 within-negated : (b : ℕ) (z : ℤ) → within (negℤ (pos b)) (pos b) z ≡ true → within (negℤ (pos b)) (pos b) (negℤ z) ≡ true
@@ -243,7 +250,7 @@ module _ (s : Stock) (o : Order) (a : Faces) (f : Face) (list : List ℕ) (size 
 
   cut-shared : Same (insides (region (s .k) a) (pointOf s) (shelfRun s o))
       (insides (bin (s .k) a f) (pointOf s) (shelfRun s o) ++ insides (bin (s .k) a (mirror f)) (pointOf s) (shelfRun s o))
-  cut-shared = insides-shared (s .k) a (fits .others .sized) f (fits .own .mark-range) (pointOf s) (shelfRun s o)
+  cut-shared = insides-shared (s .k) a (fits .others .slices .sized) f (fits .own .mark-range) (pointOf s) (shelfRun s o)
 
   -- "a picture on the shared face was sold in both bins": no number is in both,
   pub bins-share-none : (p : ℕ) → 0 < count (eqb p) (insideList s o (withFace a f) list)
@@ -253,7 +260,7 @@ module _ (s : Stock) (o : Order) (a : Faces) (f : Face) (list : List ℕ) (size 
       let here = every-counted (λ q. inside (bin (s .k) a f) (pointOf s q)) _ p (every-keep _ (shelfRun s o)) listed in
       rw (inside-listed s o (withFace a (mirror f)) list mirror-accepted)
       (count-none (λ q. inside (bin (s .k) a (mirror f)) (pointOf s q)) _ p (every-keep _ (shelfRun s o))
-      (not-inside-both (s .k) a (fits .others .sized) f (fits .own .mark-range) (pointOf s p) here))
+      (not-inside-both (s .k) a (fits .others .slices .sized) f (fits .own .mark-range) (pointOf s p) here))
 
   -- no number of the region that is cut is lost,
   pub bins-lose-none : Same (insideList s o a list) (insideList s o (withFace a f) list ++ insideList s o (withFace a (mirror f)) list)

@@ -10,12 +10,13 @@ use lib.IntN.{ℤ}
 use lib.Dec.{eqb}
 use borrow.Author.Tests.{eq-eqb}
 use Rattle.terms.specs.Tests.{every}
-use Rattle.terms.specs.Lent.{Stock, Order, Faces}
+use Rattle.terms.specs.Lent.{Stock, Order, Faces, Regions}
 use Rattle.terms.specs.Points.{isCoordinate}
 use Rattle.terms.specs.Refusals.{Refusal}
 use Rattle.terms.specs.BuildCall.{buildRefusals}
 use Rattle.terms.specs.CheckCall.{checkRefusals}
 use Rattle.terms.specs.ListCall.{listRefusals}
+use Rattle.terms.specs.ListRegionsCall.{listRegionsRefusals}
 use Rattle.terms.specs.ScreenCall.{screenRefusals}
 use Rattle.terms.specs.ExplainCall.{explainRefusals}
 use Rattle.terms.specs.PlaceCall.{placeRefusals}
@@ -54,6 +55,10 @@ module _ (s : Stock) (o : Order) (fit : every isCoordinate (s .points) ≡ true)
   pub list-never-five : (f : Faces) (list : List ℕ) → neverHolds 5 (listRefusals s o f list) ≡ true
   unfolding neverHolds
   list-never-five f list = rw fit
+
+  pub list-regions-never-five : (g : Regions) (lists counts : List ℕ) → neverHolds 5 (listRegionsRefusals s o g lists counts) ≡ true
+  unfolding neverHolds
+  list-regions-never-five g lists counts = rw fit
 
   pub screen-never-five : (f : Faces) → neverHolds 5 (screenRefusals s o f) ≡ true
   unfolding neverHolds

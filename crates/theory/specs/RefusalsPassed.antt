@@ -20,12 +20,15 @@ use Rattle.terms.specs.Refusals.{
   roomRefusals,
   coordinateRefusals,
   faceCountRefusals,
+  faceCountsRefusals,
   faceLengthRefusals,
   faceRangeRefusals,
   markRefusals,
   treeRefusals,
   numberRefusals,
+  regionCountRefusals,
   stockRefusals,
+  faceSliceRefusals,
   faceRefusals,
 }
 use Rattle.theory.specs.Flags.{not-false, false-not, and-true}
@@ -62,31 +65,61 @@ stock-tested s dimension many size w = record {
   each = λ p e. record { ranges = λ i l. coordinates-passed (s .points) w _ (coordinate-place (s .k) (s .n) (s .points) size (ltb-true p (s .n) e) l) };
 }
 
-pub stock-passed : (s : Stock) → Passed (stockRefusals s) → Passed (coordinateRefusals (s .points)) → TestedPoints s
-stock-passed s w c =
+-- The stock's shape: 1, 2 and 3 were tested.
+pub record StockShaped (s : Stock) : Type 0 where
+  pub dimension : (1 ≤ s .k) × (s .k ≤ 4)
+  pub many : s .n ≤ 65535
+  pub size : length (s .points) ≡ s .k * s .n
+
+pub stock-shape : (s : Stock) → Passed (stockRefusals s) → StockShaped s
+stock-shape s w =
     let a = passed-parts (dimensionRefusals (s .k)) (sizeRefusals (s .n) ++ lengthRefusals (s .k * s .n) (s .points)) w in
     let b = passed-parts (sizeRefusals (s .n)) (lengthRefusals (s .k * s .n) (s .points)) (a .1) in
-    stock-tested s (dimension-passed (s .k) (a .0)) (size-passed (s .n) (b .0)) (length-passed (s .k * s .n) (s .points) (b .1)) c
+    record {
+      dimension = dimension-passed (s .k) (a .0);
+      many = size-passed (s .n) (b .0);
+      size = length-passed (s .k * s .n) (s .points) (b .1);
+    }
+
+pub stock-passed : (s : Stock) → Passed (stockRefusals s) → Passed (coordinateRefusals (s .points)) → TestedPoints s
+stock-passed s w c = let p = stock-shape s w in stock-tested s (p .dimension) (p .many) (p .size) c
 
 pub face-count-passed : (h : ℕ) → Passed (faceCountRefusals h) → h ≤ 32
 face-count-passed h w = ltb-false 32 h (w .fails 0)
 
--- The groups of the faces, each passed.
-record FacesPassed (k : ℕ) (f : Faces) : Type 0 where
-  few : Passed (faceCountRefusals (f .h))
+pub face-counts-passed : (faceCounts : List ℕ) → Passed (faceCountsRefusals faceCounts) → (r : ℕ) → r < length faceCounts → getD faceCounts r 0 ≤ 32
+face-counts-passed faceCounts w r l =
+    leb-true _ 32 (every-at (λ h. leb h 32) 0 faceCounts (not-false (every (λ h. leb h 32) faceCounts) (w .fails 0)) r l)
+
+-- 1 to 64 regions, and a face count for each.
+pub record RegionsCounted (regions : ℕ) (faceCounts : List ℕ) : Type 0 where
+  pub some : 1 ≤ regions
+  pub most : regions ≤ 64
+  pub counted : length faceCounts ≡ regions
+
+pub region-count-passed : (regions : ℕ) (faceCounts : List ℕ) → Passed (regionCountRefusals regions faceCounts) → RegionsCounted regions faceCounts
+region-count-passed regions faceCounts w =
+    let p = and-true (leb 1 regions) (not-false (leb 1 regions && leb regions 64) (w .fails 0)) in
+    record {
+      some = leb-true 1 regions (p .0);
+      most = leb-true regions 64 (p .1);
+      counted = eqb-true (length faceCounts) regions (not-false (eqb (length faceCounts) regions) (w .fails 1));
+    }
+
+-- The groups of the faces' slices, each passed.
+record SlicesPassed (k : ℕ) (f : Faces) : Type 0 where
   sizes : Passed (faceLengthRefusals k (f .h) (f .normals) (f .offsets))
   ranges : Passed (faceRangeRefusals (f .normals) (f .offsets))
   marks : Passed (markRefusals (f .h) (f .marks))
 
-face-groups : (k : ℕ) (f : Faces) → Passed (faceRefusals k f) → FacesPassed k f
-face-groups k f w =
+slice-groups : (k : ℕ) (f : Faces) → Passed (faceSliceRefusals k f) → SlicesPassed k f
+slice-groups k f w =
     let L : List Refusal = faceLengthRefusals k (f .h) (f .normals) (f .offsets) in
     let R : List Refusal = faceRangeRefusals (f .normals) (f .offsets) in
     let M : List Refusal = markRefusals (f .h) (f .marks) in
-    let a = passed-parts (faceCountRefusals (f .h)) (L ++ R ++ M) w in
-    let b = passed-parts L (R ++ M) (a .1) in
-    let c = passed-parts R M (b .1) in
-    record { few = a .0; sizes = b .0; ranges = c .0; marks = c .1 }
+    let a = passed-parts L (R ++ M) w in
+    let b = passed-parts R M (a .1) in
+    record { sizes = a .0; ranges = b .0; marks = b .1 }
 
 -- The lists of the faces are as long as k and h say.
 pub record FacesSized (k : ℕ) (f : Faces) : Type 0 where
@@ -94,20 +127,23 @@ pub record FacesSized (k : ℕ) (f : Faces) : Type 0 where
   pub offsets-size : length (f .offsets) ≡ f .h
   pub marks-size : length (f .marks) ≡ f .h
 
--- What the tests of the faces ask, list by list.
-pub record FacesFit (k : ℕ) (f : Faces) : Type 0 where
-  pub many : f .h ≤ 32
+-- What the tests of the faces' slices ask, list by list.
+pub record SlicesFit (k : ℕ) (f : Faces) : Type 0 where
   pub sized : FacesSized k f
   pub components : every isComponent (f .normals) ≡ true
   pub offsets-range : every isOffset (f .offsets) ≡ true
   pub marks-range : every isMark (f .marks) ≡ true
 
--- Faces that were passed fit, and faces that fit are passed.
-pub faces-fit : (k : ℕ) (f : Faces) → Passed (faceRefusals k f) → FacesFit k f
-faces-fit k f w =
-    let p = face-groups k f w in
+-- What the tests of the faces ask: few enough, and slices that fit.
+pub record FacesFit (k : ℕ) (f : Faces) : Type 0 where
+  pub many : f .h ≤ 32
+  pub slices : SlicesFit k f
+
+-- Slices that were passed fit.
+pub slices-fit : (k : ℕ) (f : Faces) → Passed (faceSliceRefusals k f) → SlicesFit k f
+slices-fit k f w =
+    let p = slice-groups k f w in
     record {
-      many = face-count-passed (f .h) (p .few);
       sized = record {
         normals-size = eqb-true (length (f .normals)) (k * f .h) (not-false (eqb (length (f .normals)) (k * f .h)) (p .sizes .fails 0));
         offsets-size = eqb-true (length (f .offsets)) (f .h) (not-false (eqb (length (f .offsets)) (f .h)) (p .sizes .fails 1));
@@ -118,21 +154,29 @@ faces-fit k f w =
       marks-range = not-false (every isMark (f .marks)) (p .marks .fails 1);
     }
 
+-- Faces that were passed fit, and faces that fit are passed.
+pub faces-fit : (k : ℕ) (f : Faces) → Passed (faceRefusals k f) → FacesFit k f
+faces-fit k f w =
+    let p = passed-parts (faceCountRefusals (f .h)) (faceSliceRefusals k f) w in
+    record { many = face-count-passed (f .h) (p .0); slices = slices-fit k f (p .1) }
+
 pub fit-faces : (k : ℕ) (f : Faces) → FacesFit k f → Passed (faceRefusals k f)
 fit-faces k f w =
+    let s = w .slices in
     passed-next (le-ltb 32 (f .h) (w .many))
-    (passed-next (false-not (eq-eqb (length (f .normals)) (k * f .h) (w .sized .normals-size)))
-    (passed-next (false-not (eq-eqb (length (f .offsets)) (f .h) (w .sized .offsets-size)))
-    (passed-next (false-not (w .components))
-    (passed-next (false-not (w .offsets-range))
-    (passed-next (false-not (eq-eqb (length (f .marks)) (f .h) (w .sized .marks-size)))
-    (passed-next (false-not (w .marks-range)) passed-none))))))
+    (passed-next (false-not (eq-eqb (length (f .normals)) (k * f .h) (s .sized .normals-size)))
+    (passed-next (false-not (eq-eqb (length (f .offsets)) (f .h) (s .sized .offsets-size)))
+    (passed-next (false-not (s .components))
+    (passed-next (false-not (s .offsets-range))
+    (passed-next (false-not (eq-eqb (length (f .marks)) (f .h) (s .sized .marks-size)))
+    (passed-next (false-not (s .marks-range)) passed-none))))))
 
 pub faces-passed : (k : ℕ) (f : Faces) → Passed (faceRefusals k f) → TestedFaces k f
 faces-passed k f w =
-    let p = faces-fit k f w in
+    let q = faces-fit k f w in
+    let p = q .slices in
     record {
-      many = p .many;
+      many = q .many;
       normals-size = p .sized .normals-size;
       offsets-size = p .sized .offsets-size;
       components = within-each (negsuc 32766) (pos 32767) (f .normals) (p .components);

@@ -1,7 +1,7 @@
--- Stores into a list: what stands in a place after one, and a loop that fills a list from the front, one store a turn.
-use mathlib.Core.Path.{_≡_}
+-- Stores into a list: what stands in a place after one, a loop that fills a list from the front, one store a turn, and three places filled.
+use mathlib.Core.Path.{_≡_, refl}
 use mathlib.Core.Logic.{_⊎_, inl, inr}
-use mathlib.Core.List.{List}
+use mathlib.Core.List.{List, [], _∷_}
 use Prim.Native.Nat.{ℕ, _+_, _<_}
 use native.Mathlib.Decide.{ℕ-discrete}
 use native.Mathlib.Omega.{arith}
@@ -29,3 +29,11 @@ store-next P z xs d v l all q =
     d
     (λ e m. rw (getD-set-other xs d e v z (omega arith)) (all e m))
     (rw (getD-set-same xs d v z l) q)
+
+-- Three places, each stored into.
+pub three-stored : {A : Type 0} (place : List A) (a b c : A) → length place ≡ 3 → set (set (set place 0 a) 1 b) 2 c ≡ a ∷ b ∷ c ∷ []
+three-stored [] a b c size = absurd (omega arith)
+three-stored (x ∷ []) a b c size = absurd (omega arith)
+three-stored (x ∷ y ∷ []) a b c size = absurd (omega arith)
+three-stored (x ∷ y ∷ z ∷ []) a b c size = refl
+three-stored (x ∷ y ∷ z ∷ w ∷ place) a b c size = absurd (omega arith)

@@ -2,7 +2,7 @@
 use mathlib.Core.Path.{_≡_, refl, sym, ap, subst, _∙_}
 use mathlib.Core.Bool.{Bool}
 use mathlib.Core.List.{List, [], _∷_}
-use Prim.Native.Nat.{ℕ, _<_}
+use Prim.Native.Nat.{ℕ, _-_, _≤_, _<_}
 use native.Mathlib.Omega.{arith}
 use lib.ListN.{length}
 use lib.Seq.{take-length}
@@ -13,8 +13,9 @@ use Rattle.terms.specs.Box.{Box, rootBox, boxes, shelfBoxes}
 use Rattle.terms.specs.Region.{Region, region, inside, isOpen}
 use Rattle.terms.specs.Visits.{visits}
 use Rattle.theory.specs.Boxes.{Alike}
-use Rattle.theory.specs.BoxFuel.{visits-count}
+use Rattle.theory.specs.BoxFuel.{visits-count, visits-le-slots}
 use Rattle.theory.specs.BoxesAlike.{opens-alike}
+use Rattle.theory.specs.InsideAndOutside.{lists-length}
 use Rattle.region.specs.Table.{Tabled, tabled, inside-tabled, open-tabled}
 use Rattle.region.specs.Ranges.{KnownTable}
 use Rattle.region.specs.Live.{AllLive}
@@ -68,3 +69,18 @@ walked-by-faces {k} offsets marks {at} {order} {after} {i} t w = record {
       ∙ ap (λ (test : Box → Bool). count test (shelfBoxes k at order)) (open-tabled offsets marks t)
       ∙ sym (visits-count _ at order);
 }
+
+-- No count of the walk is over the number of slots.
+pub record AtMost (n i o u : ℕ) : Type 0 where
+  pub inside : i ≤ n
+  pub outside : o ≤ n
+  pub visited : u ≤ n
+
+pub counts-at-most : {g : Region} {at : ℕ → ℕ → ℤ} {run after : List ℕ} {i u : ℕ} → ShelfWalked g at run after i u → AtMost (length run) i (length run - i) u
+counts-at-most {g} {at} {run} w =
+    let both = lists-length g at run in
+    record {
+      inside = omega (arith, w .listed .inside);
+      outside = omega arith;
+      visited = omega (arith, w .visited, visits-le-slots g at run);
+    }

@@ -52,12 +52,16 @@ total-add (suc k) f g = let ih = total-add k f g in omega arith
 pub total-twice : (k : ℕ) (f g : ℕ → ℕ) → ((d : ℕ) → d < k → g d ≡ f d + f d) → totalTo k g ≡ totalTo k f + totalTo k f
 total-twice k f g h = omega (arith, total-same k g (λ d. f d + f d) h, total-add k f f)
 
+-- the total before a term, and the term, are at most the whole
+pub total-part : (k : ℕ) (f : ℕ → ℕ) (i : ℕ) → i < k → totalTo i f + f i ≤ totalTo k f
+unfolding totalTo
+total-part zero f i l = absurd (not-suc-le-zero l)
+total-part (suc k) f i l =
+    below-suc (λ n. totalTo n f + f n ≤ totalTo k f + f k) k (λ n m. omega (arith, total-part k f n m)) (omega arith) i l
+
 -- a term is at most the total
 pub total-term : (k : ℕ) (f : ℕ → ℕ) (i : ℕ) → i < k → f i ≤ totalTo k f
-unfolding totalTo
-total-term zero f i l = absurd (not-suc-le-zero l)
-total-term (suc k) f i l =
-    below-suc (λ n. f n ≤ totalTo k f + f k) k (λ n m. omega (arith, total-term k f n m)) (omega arith) i l
+total-term k f i l = omega (arith, total-part k f i l)
 
 -- where every term is at most B, the total is at most k * B
 pub total-most : (k B : ℕ) (f : ℕ → ℕ) → ((d : ℕ) → d < k → f d ≤ B) → totalTo k f ≤ k * B

@@ -8,7 +8,8 @@ use borrow.Author.Needs.{needs}
 use Rattle.terms.specs.Lent.{stock, orderOf, faces}
 use Rattle.theory.specs.ListCall.{ListPassed}
 use Rattle.descent.specs.Root.{shelf-rooted}
-use Rattle.hornherder.specs.ListOutcome.{AtMost, counts-at-most, list-tested, list-refused, list-done}
+use Rattle.walk.specs.Shelf.{AtMost, counts-at-most}
+use Rattle.hornherder.specs.ListOutcome.{list-tested, list-refused, list-done}
 use Rattle.hornherder.proofs.list.hornherder_list.Statement.{statement}
 use Rattle.hornherder.proofs.list.hornherder_list.Tie as tie
 

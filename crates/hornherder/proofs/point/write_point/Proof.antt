@@ -2,7 +2,7 @@
 use mir.Syntax.{w32}
 use mir.Facts.{toZ-ofZ}
 use borrow.Author.Needs.{needs}
-use Rattle.hornherder.specs.PointOutcome.{three-stored}
+use Rattle.theory.specs.Stores.{three-stored}
 use Rattle.hornherder.proofs.point.write_point.Statement.{statement}
 use Rattle.hornherder.proofs.point.write_point.Tie as tie
 
