@@ -1,9 +1,8 @@
 -- What the explain call gives, put together: where its first refusal is not 0, the refusal; where it is 0, the number's reason, whose slot and face are small.
 use mathlib.Core.Path.{_≡_, refl, sym, _∙_}
 use mathlib.Core.Logic.{_≢_}
-use Prim.Native.Nat.{ℕ, _≤_}
+use Prim.Native.Nat.{ℕ}
 use native.Mathlib.Omega.{arith}
-use lib.ListN.{length}
 use lib.Seq.{length-take-le}
 use lib.IntN.{pos}
 use Rattle.terms.specs.declared.Explaining.{Explaining}

@@ -46,7 +46,7 @@ module _ (s : Stock) (o : Order) (g : Regions) (lists counts : List ℕ) {a : �
   pub list-regions-answers-the-first : FirstHeld (listRegionsRefusals s o g lists counts) a
   list-regions-answers-the-first = rw (e .answered) (list-regions-first s o g lists counts)
 
-  -- "One bad region refuses the whole call and nothing is written."
+  -- "... and nothing is written."
   pub list-regions-refused-writes-nothing : a ≢ 0 → (x ≡ lists) × (y ≡ counts)
   list-regions-refused-writes-nothing m =
       let w = list-regions-refused s o g lists counts (λ z. m (e .answered ∙ z)) in
@@ -149,3 +149,8 @@ module _ (s : Stock) (o : Order) (g : Regions) (lists counts : List ℕ) {a : �
       pub region-visits-at-most-hS : ((i : ℕ) → i < facesIn (g .faceCounts) r → isSquare (regionAt (s .k) g r) i ≡ true)
           → getD y (r * 3 + 2) 0 ≤ facesIn (g .faceCounts) r * S (slotsOf s) (s .k)
       region-visits-at-most-hS squares = omega (arith, count-at 2 (omega arith), visits-at-most-hS s o f zeros alone squares)
+
+  -- "One bad region refuses the whole call": where the list call on the faces of one region alone is refused, so is this one.
+  pub bad-region-refuses : (r : ℕ) → r < g .regionCount → {list : List ℕ} → slotsOf s ≤ length list → {b : Listing} {z : List ℕ}
+      → ListedAs s o (facesOfRegion (s .k) g r) list b z → b .code ≢ 0 → a ≢ 0
+  bad-region-refuses r l room single bad done = bad (region-is-accepted done r l room single)

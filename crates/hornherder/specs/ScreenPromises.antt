@@ -14,11 +14,11 @@ use Rattle.terms.specs.Points.{pointOf, slotsOf}
 use Rattle.terms.specs.Tree.{shelfRun}
 use Rattle.terms.specs.Region.{region}
 use Rattle.terms.specs.Visits.{visits}
-use Rattle.terms.specs.Lists.{insides, outsides}
+use Rattle.terms.specs.Lists.{insides}
 use Rattle.terms.specs.Screen.{hasFirst, first, screenVisits}
 use Rattle.terms.specs.Refusals.{ifDone}
 use Rattle.terms.specs.Bound.{S, isSquare}
-use Rattle.terms.specs.ListCall.{listCode, listAnswer, listAfter, ListedAs}
+use Rattle.terms.specs.ListCall.{listing, listCode, listAnswer, listAfter, ListedAs}
 use Rattle.terms.specs.ScreenCall.{screenRefusals, screenCode, screenAnswer}
 use Rattle.terms.specs.Unmarked.{unmarkedScreenAnswer}
 use Rattle.theory.specs.ClosedFaces.{closed-screen-answer}
@@ -55,12 +55,7 @@ abbrev refusedScreen : ℕ → Screening
 refusedScreen c = record { code = c; found = 0; number = 0; visits = 0 }
 
 abbrev doneList : Stock → Order → Faces → Listing
-doneList s o f = record {
-  code = 0;
-  inside = length (insides (region (s .k) f) (pointOf s) (shelfRun s o));
-  outside = length (outsides (region (s .k) f) (pointOf s) (shelfRun s o));
-  visits = visits (region (s .k) f) (pointOf s) (shelfRun s o);
-}
+doneList s o f = listing (region (s .k) f) (pointOf s) (shelfRun s o)
 
 abbrev refusedList : ℕ → Listing
 refusedList c = record { code = c; inside = 0; outside = 0; visits = 0 }

@@ -1,5 +1,5 @@
-// The refusal tests, a function for each number that returns it where a test of its group holds, or 0; and the two groups that several calls make
-// together, the stock's shape and the faces.
+// The refusal tests, a function for each group that returns its number where a test of it holds, or 0; and the groups that several calls make together: the
+// stock's shape, the faces' slices, and the faces.
 use crate::ranges::all_at_most;
 use crate::ranges::all_marks;
 use crate::ranges::all_within;
@@ -64,11 +64,11 @@ pub fn length_refusal(size: usize, points: &[i32]) -> u32
     0
 }
 
-// 4 where an order or a list buffer has room for fewer numbers than there are slots.
-pub fn room_refusal(slots: usize, room: usize) -> u32
-    ensures { λ r. ⌜ First (roomRefusals slots room) r ⌝ }
+// 4 where a lent order or buffer has fewer places than it must.
+pub fn room_refusal(places: usize, room: usize) -> u32
+    ensures { λ r. ⌜ First (roomRefusals places room) r ⌝ }
 {
-    if room < slots {
+    if room < places {
         return 4;
     }
     0

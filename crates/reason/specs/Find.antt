@@ -1,12 +1,12 @@
 -- What the way down to a number asks at each branch, and that what it finds there is the computed reason.
-use mathlib.Core.Path.{_≡_, refl, sym, ap, _∙_}
+use mathlib.Core.Path.{_≡_, refl, sym, _∙_}
 use mathlib.Core.Bool.{Bool, true, false}
 use mathlib.Core.Logic.{_≢_}
 use mathlib.Core.List.{List}
 use Prim.Native.Nat.{ℕ, zero, suc, _+_, _-_, _/_, _^_, _≤_, _<_}
 use native.Mathlib.Nat.{mod-eq-of-lt}
 use native.Mathlib.Omega.{arith}
-use lib.ListN.{length, getD}
+use lib.ListN.{length}
 use lib.IntN.{ℤ}
 use borrow.Author.Tests.{eq-eqb, ne-eqb}
 use Rattle.terms.specs.declared.Reason.{Reason}
@@ -28,7 +28,6 @@ use Rattle.theory.specs.LowestThatPasses.{lowest-is, none-lowest}
 use Rattle.theory.specs.ReasonOnTheWay.{branch-below, branch-above, branch-open}
 use Rattle.theory.specs.ReasonSteps.{openReason, reason-step, reason-depth, own-same-point, stands-left, stands-right}
 use Rattle.region.specs.Table.{tabled}
-use Rattle.region.specs.Live.{Lives}
 use Rattle.region.specs.Judged.{LowestBelow, AboveAll, StillOpen, judged-open, above-not-below}
 use Rattle.descent.specs.declared.runs.Run.{Run}
 use Rattle.descent.specs.Points.{HasPoint, PointAt}

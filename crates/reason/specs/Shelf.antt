@@ -9,12 +9,12 @@ use lib.IntN.{ℤ}
 use Rattle.terms.specs.declared.Reason.{Reason}
 use Rattle.terms.specs.Lent.{Faces, facesOf}
 use Rattle.terms.specs.Points.{coord}
-use Rattle.terms.specs.Box.{Box, rootBox}
+use Rattle.terms.specs.Box.{Box}
 use Rattle.terms.specs.Region.{region}
 use Rattle.terms.specs.Reason.{InRun}
 use Rattle.terms.specs.Explain.{reasonOf}
 use Rattle.theory.specs.ReasonSteps.{reason-alike}
-use Rattle.region.specs.Table.{Tabled, tabled}
+use Rattle.region.specs.Table.{Tabled}
 use Rattle.region.specs.Ranges.{KnownTable}
 use Rattle.region.specs.Live.{AllLive}
 use Rattle.descent.specs.Points.{HasPoint, PointAt}

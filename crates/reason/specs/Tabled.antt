@@ -1,5 +1,5 @@
 -- The reason that is found by the table of the faces is the one that is found by the faces.
-use mathlib.Core.Path.{_≡_, refl, ap, _∙_}
+use mathlib.Core.Path.{_≡_, refl, ap}
 use mathlib.Core.Bool.{Bool, true, false, cond}
 use mathlib.Core.List.{List, [], _∷_}
 use Prim.Native.Nat.{ℕ, zero, suc, _+_, _<_}
@@ -14,9 +14,8 @@ use Rattle.terms.specs.Tests.{allTo, lowestTo}
 use Rattle.terms.specs.Lent.{facesOf}
 use Rattle.terms.specs.Run.{middle, axis, node, lefts, rights}
 use Rattle.terms.specs.Box.{Box, leftBox, rightBox}
-use Rattle.terms.specs.Region.{Region, region, whollyAbove, whollyBelow}
+use Rattle.terms.specs.Region.{Region, region, whollyAbove, whollyBelow, isBelow}
 use Rattle.terms.specs.Margin.{margin}
-use Rattle.terms.specs.Reason.{isBelow}
 use Rattle.terms.specs.Explain.{ownReason, branchReason, reasonIn}
 use Rattle.theory.specs.AllAndAny.{all-same}
 use Rattle.theory.specs.LowestThatPasses.{lowest-same, lowest-stops}

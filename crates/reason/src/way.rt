@@ -11,7 +11,6 @@ use region::lowest::lowest_below;
 use terms::Reason;
 use terms::axis::next_axis;
 ghost use mathlib.Core.Path.{_≡_};
-ghost use Prim.Native.Nat.{_<_};
 ghost use Rattle.terms.specs.Lent.{facesOf};
 ghost use Rattle.terms.specs.Points.{lone};
 ghost use Rattle.terms.specs.Box.{boxOf};

@@ -10,9 +10,8 @@ use Rattle.whole.specs.IndexedSum.{sumTo, sum-same}
 use Rattle.terms.specs.Lent.{Faces, facesOf}
 use Rattle.terms.specs.Points.{lone}
 use Rattle.terms.specs.Box.{Box}
-use Rattle.terms.specs.Region.{Region, region, aboveAt, above, inside, whollyAbove, whollyBelow, isSettled, isOpen}
+use Rattle.terms.specs.Region.{Region, region, aboveAt, above, isBelow, inside, whollyAbove, whollyBelow, isSettled, isOpen}
 use Rattle.terms.specs.Margin.{margin}
-use Rattle.terms.specs.Reason.{isBelow}
 use Rattle.theory.specs.AllAndAny.{all-same, any-same}
 use Rattle.theory.specs.Stores.{store-next}
 use Rattle.theory.specs.PointsAlike.{SamePoint}

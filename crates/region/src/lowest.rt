@@ -6,7 +6,7 @@ ghost use lib.ListN.{length};
 ghost use Rattle.terms.specs.Tests.{lowestTo};
 ghost use Rattle.terms.specs.Lent.{facesOf};
 ghost use Rattle.terms.specs.Points.{lone};
-ghost use Rattle.terms.specs.Reason.{isBelow};
+ghost use Rattle.terms.specs.Region.{isBelow};
 ghost use Rattle.theory.specs.Tested.{Coordinates};
 ghost use Rattle.region.specs.Table.{tabled};
 ghost use Rattle.region.specs.Ranges.{KnownTable};

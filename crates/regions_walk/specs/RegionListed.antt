@@ -6,14 +6,15 @@ use lib.ListN.{length, set}
 use lib.IntN.{ℤ}
 use Rattle.terms.specs.Region.{Region}
 use Rattle.terms.specs.Lists.{places}
-use Rattle.terms.specs.ThreeCounts.{threeCounts}
+use Rattle.terms.specs.ListCall.{listing}
+use Rattle.terms.specs.ThreeCounts.{countsOf}
 use Rattle.theory.specs.Stores.{three-stored}
 use Rattle.walk.specs.Shelf.{ShelfWalked}
 
 -- The region's places hold its two lists, and its counts are inside, outside and visits.
 pub record RegionListed (g : Region) (at : ℕ → ℕ → ℤ) (run list counts : List ℕ) : Type 0 where
   pub listed : list ≡ places g at run
-  pub counted : counts ≡ threeCounts g at run
+  pub counted : counts ≡ countsOf (listing g at run)
 
 -- The walk of a shelf, with its counts stored in three places.
 pub region-listed : {g : Region} {at : ℕ → ℕ → ℤ} {run list : List ℕ} {i u inside outside visited : ℕ} (counts : List ℕ) → length counts ≡ 3 → ShelfWalked g at run list i u

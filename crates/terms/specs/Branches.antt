@@ -41,6 +41,6 @@ shelfBranches k at run = branches (length run) k at 0 0 run (rootBox at run)
 abbrev pub noBranch : Branch
 noBranch = record { depth = 0; start = 0; size = 0; box = record { low = λ d. pos 0; high = λ d. pos 0 } }
 
--- The branch whose node stands in slot s of those that are listed.
+-- The branch in place s of a list: of the branches of a shelf, the one whose node stands in slot s.
 abbrev pub branchAt : List Branch → ℕ → Branch
 branchAt bs s = getD bs s noBranch

@@ -1,10 +1,10 @@
--- The table of examples: rows of arguments with what the calls must give, all proved as one statement by computing the calls' definitions.
+-- The table of examples: rows of arguments with what the calls must give, all proved as one statement: by computing the calls' definitions, and the four cases of a
+-- reason by what they ask.
 -- The first part has the given examples 1 to 9 and the table of S; the second has rows of our own where those leave a choice open.
 use mathlib.Core.Path.{_≡_, refl, sym}
 use mathlib.Core.Bool.{Bool, true, false}
 use mathlib.Core.List.{List, [], _∷_, map}
 use Prim.Native.Nat.{ℕ, zero, suc, _<_}
-use native.Mathlib.Nat.{not-suc-le-zero}
 use native.Mathlib.Omega.{arith}
 use lib.ListN.{length, getD, drop, replicate}
 use lib.IntN.{ℤ, pos, negℤ}
@@ -19,14 +19,14 @@ use Rattle.terms.specs.declared.Screening.{Screening}
 use Rattle.terms.specs.declared.Placing.{Placing}
 use Rattle.terms.specs.declared.Explaining.{Explaining}
 use Rattle.terms.specs.declared.Reason.{Reason}
-use Rattle.terms.specs.declared.Reason.the-variants.{OutsideWithBranch}
+use Rattle.terms.specs.declared.Reason.the-variants.{InsideWithBranch, InsideByItself, OutsideWithBranch, OutsideByItself}
 use Rattle.terms.specs.Tests.{count, every, keep, allTo, anyTo, lowestTo, rising}
 use Rattle.terms.specs.Lent.{Stock, Order, Faces, Regions, stock, orderOf, faces, regions}
 use Rattle.terms.specs.Points.{coord, pointOf, slotsOf}
 use Rattle.terms.specs.Before.{before}
 use Rattle.terms.specs.Tree.{treeRun, eachOnce, isTree, shelfRun, isShelf}
 use Rattle.terms.specs.Box.{Box, leastFrom, greatestFrom, rootBox, boxes, shelfBoxes}
-use Rattle.terms.specs.Region.{Region, region, reach, aboveAt, inside, isSettled, isOpen}
+use Rattle.terms.specs.Region.{Region, region, reach, aboveAt, above, inside, whollyAbove, isSettled, isOpen}
 use Rattle.terms.specs.Visits.{openSlots, visits}
 use Rattle.terms.specs.Bound.{digitsWithin, digits, S, isSquare}
 use Rattle.terms.specs.Value.{inRange, coordinateOf}
@@ -1116,6 +1116,8 @@ grey-refuses-length = makes (grey notANumber) (pos 7 ∷ pos 8 ∷ pos 9 ∷ pos
 abbrev pub nothing-refuses-length : Row
 nothing-refuses-length = makes nothing [] (unmade 3) []
 
+-- ---- the reasons
+
 -- Faces (1, 0), m 2 and (1, 0), m 5: the left branch of A is wholly below the second alone.
 abbrev twoAndFive : Faces
 twoAndFive = closed 2 (pos 1 ∷ pos 0 ∷ pos 1 ∷ pos 0 ∷ []) (pos 2 ∷ pos 5 ∷ [])
@@ -1127,10 +1129,6 @@ fiveAndSix = closed 2 (pos 1 ∷ pos 0 ∷ pos 1 ∷ pos 0 ∷ []) (pos 5 ∷ po
 -- Faces (1, 1), m 7 and (1, 1), m 8: it is open.
 abbrev twoDiagonals : Faces
 twoDiagonals = closed 2 (pos 1 ∷ pos 1 ∷ pos 1 ∷ pos 1 ∷ []) (pos 7 ∷ pos 8 ∷ [])
-
--- Face (1, 1), m 6, open.
-abbrev openSix : Faces
-openSix = faces 1 (pos 1 ∷ pos 1 ∷ []) (pos 6 ∷ []) (1 ∷ [])
 
 -- A with the two faces: number 1 stands in slot 0, whose box x 1..4, y 1..2 is wholly below x + y = 7; its own sum is 6.
 abbrev pub explain-whole-branch-below : Row
@@ -1168,6 +1166,14 @@ explain-whole-shelf-inside = explains shelfA rightOfOne 1 (inside-because 1 3)
 abbrev pub explain-whole-shelf-outside : Row
 explain-whole-shelf-outside = explains shelfA rightOfEight 3 (outside-because 3 3 0 (minus 1))
 
+-- The right branch is wholly above the open face x = 1, the root is not: its node stands in slot 5, the picture in slot 4.
+abbrev pub explain-branch-inside : Row
+explain-branch-inside = explains shelfA rightOfOneOpen 3 (inside-because 1 5)
+
+-- On an open face with the whole shelf: below it by 0.
+abbrev pub explain-whole-shelf-on-an-open-face : Row
+explain-whole-shelf-on-an-open-face = explains shelfA rightOfSevenOpen 3 (outside-because 3 3 0 (pos 0))
+
 -- No faces: inside with the root.
 abbrev pub explain-no-faces : Row
 explain-no-faces = explains shelfA noFaces 4 (inside-because 1 3)
@@ -1186,7 +1192,7 @@ explain-lowest-face-of-the-point = explains shelfA twoDiagonals 5 (outside-becau
 
 -- Number 0 lies on an open face: below it by 0.
 abbrev pub explain-on-an-open-face : Row
-explain-on-an-open-face = explains shelfA openSix 0 (outside-because 4 2 0 (pos 0))
+explain-on-an-open-face = explains shelfA diagonalOpen 0 (outside-because 4 2 0 (pos 0))
 
 -- On a closed one it is inside.
 abbrev pub explain-on-a-closed-face : Row
@@ -1196,7 +1202,7 @@ explain-on-a-closed-face = explains shelfA diagonal 0 (inside-because 2 2)
 abbrev pub explain-longer-order : Row
 explain-longer-order = explains shelfALonger twoFaces 1 (outside-because 3 0 0 (minus 1))
 
--- 1 before the number.
+-- 1 before 2.
 abbrev pub explain-refuses-dimension : Row
 explain-refuses-dimension = explains fiveDimensions fromFive 9 (unexplained 1)
 
@@ -1228,6 +1234,10 @@ explain-refuses-normals = explains pair wrongNormals 2 (unexplained 7)
 abbrev pub explain-refuses-component : Row
 explain-refuses-component = explains pairSwapped componentTooLow 2 (unexplained 8)
 
+-- 8 before 11.
+abbrev pub explain-refuses-offset-before-mark : Row
+explain-refuses-offset-before-mark = explains pair offsetAndMark 2 (unexplained 8)
+
 -- 11 before the order and the number.
 abbrev pub explain-refuses-mark : Row
 explain-refuses-mark = explains pairSwapped markTwo 2 (unexplained 11)
@@ -1248,6 +1258,17 @@ explain-refuses-number-of-none = explains empty slantedInThree 0 (unexplained 13
 abbrev pub reason-nearest-the-root : Row
 reason-nearest-the-root = reasons shelfA rightOfEight 1 (OutsideWithBranch 3 0 (minus 4))
 
+-- m 1: number 1 is inside with the root.
+abbrev pub reason-inside-with-branch : Row
+reason-inside-with-branch = reasons shelfA rightOfOne 1 (InsideWithBranch 3)
+
+-- Points 0 and 10 and the face 1, m 5: both branches are open. Number 1 is inside by its own test, number 0 outside.
+abbrev pub reason-inside-by-itself : Row
+reason-inside-by-itself = reasons pair fromFive 1 (InsideByItself 1)
+
+abbrev pub reason-outside-by-itself : Row
+reason-outside-by-itself = reasons pair fromFive 0 (OutsideByItself 0 0 (minus 5))
+
 -- The left branch is wholly below two faces, the root is open: the lowest face.
 abbrev pub reason-lowest-face : Row
 reason-lowest-face = reasons shelfA fiveAndSix 1 (OutsideWithBranch 1 0 (minus 1))
@@ -1266,9 +1287,9 @@ refusesRegions s g listBuffer countsBuffer answer = listsRegions s g listBuffer 
 abbrev threeRegions : Regions
 threeRegions = closedRegions 3 (2 ∷ 0 ∷ 1 ∷ []) (pos 1 ∷ pos 1 ∷ minus 1 ∷ pos 0 ∷ pos 1 ∷ pos 0 ∷ []) (pos 7 ∷ minus 6 ∷ pos 5 ∷ [])
 
--- Region after region what those examples give; the later places of both buffers stay.
+-- Region after region what those examples give; the later places of both buffers stay, and those of the order are not read.
 abbrev pub regions-three : Row
-regions-three = listsRegions shelfA threeRegions (replicate 19 9) (replicate 10 8) 0
+regions-three = listsRegions shelfALonger threeRegions (replicate 19 9) (replicate 10 8) 0
     (2 ∷ 4 ∷ 3 ∷ 0 ∷ 5 ∷ 1 ∷ 1 ∷ 5 ∷ 0 ∷ 2 ∷ 3 ∷ 4 ∷ 3 ∷ 4 ∷ 2 ∷ 0 ∷ 5 ∷ 1 ∷ 9 ∷ [])
     (2 ∷ 4 ∷ 5 ∷ 6 ∷ 0 ∷ 0 ∷ 2 ∷ 4 ∷ 3 ∷ 8 ∷ [])
 
@@ -1287,6 +1308,11 @@ regions-with-marks = listsRegions pair sameFaceTwice (7 ∷ 7 ∷ 7 ∷ 7 ∷ []
 -- 64 regions are not too many; of the empty shelf each counts nothing.
 abbrev pub regions-most : Row
 regions-most = listsRegions empty (closedRegions 64 (replicate 64 0) [] []) [] (replicate 192 7) 0 [] (replicate 192 0)
+
+-- 32 faces a region are not too many, though together they are 64: zero faces with m 0, above which every point is.
+abbrev pub regions-most-faces : Row
+regions-most-faces = listsRegions pair (closedRegions 2 (32 ∷ 32 ∷ []) (replicate 64 (pos 0)) (replicate 64 (pos 0))) (replicate 4 7) (replicate 6 7) 0
+    (0 ∷ 1 ∷ 0 ∷ 1 ∷ []) (2 ∷ 0 ∷ 0 ∷ 2 ∷ 0 ∷ 0 ∷ [])
 
 -- 65 regions are.
 abbrev pub regions-refuse-65 : Row
@@ -1332,13 +1358,13 @@ tooManyInOne = closedRegions 1 (33 ∷ []) [] []
 abbrev pub regions-refuse-short-order : Row
 regions-refuse-short-order = refusesRegions shortOrder tooManyInOne (7 ∷ 7 ∷ []) (7 ∷ 7 ∷ 7 ∷ []) 4
 
--- 4 for a list buffer one place short of n a region.
+-- 4 for a list buffer one place short of n a region, before 5.
 abbrev pub regions-refuse-short-lists : Row
-regions-refuse-short-lists = refusesRegions shelfA threeRegions (replicate 17 9) (replicate 9 8) 4
+regions-refuse-short-lists = refusesRegions coordinateTooHigh tooManyInOne (7 ∷ []) (7 ∷ 7 ∷ 7 ∷ []) 4
 
--- 4 for a counts buffer one place short of 3 a region.
+-- 4 for a counts buffer one place short of 3 a region, before 5.
 abbrev pub regions-refuse-short-counts : Row
-regions-refuse-short-counts = refusesRegions shelfA threeRegions (replicate 18 9) (replicate 8 8) 4
+regions-refuse-short-counts = refusesRegions coordinateTooHigh tooManyInOne (7 ∷ 7 ∷ []) (7 ∷ 7 ∷ []) 4
 
 -- 5 before 6.
 abbrev pub regions-refuse-coordinate : Row
@@ -1535,6 +1561,8 @@ table =
     ∷ explain-open-branch-inside
     ∷ explain-whole-shelf-inside
     ∷ explain-whole-shelf-outside
+    ∷ explain-branch-inside
+    ∷ explain-whole-shelf-on-an-open-face
     ∷ explain-no-faces
     ∷ explain-face-of-the-box
     ∷ explain-lowest-face-of-the-box
@@ -1550,16 +1578,21 @@ table =
     ∷ explain-refuses-h
     ∷ explain-refuses-normals
     ∷ explain-refuses-component
+    ∷ explain-refuses-offset-before-mark
     ∷ explain-refuses-mark
     ∷ explain-refuses-order
     ∷ explain-refuses-number
     ∷ explain-refuses-number-of-none
     ∷ reason-nearest-the-root
+    ∷ reason-inside-with-branch
+    ∷ reason-inside-by-itself
+    ∷ reason-outside-by-itself
     ∷ reason-lowest-face
     ∷ regions-three
     ∷ regions-one
     ∷ regions-with-marks
     ∷ regions-most
+    ∷ regions-most-faces
     ∷ regions-refuse-65
     ∷ regions-refuse-none
     ∷ regions-refuse-count-before-room
@@ -1589,7 +1622,57 @@ root-below = record {
   stands = record { known = omega arith; number = refl };
   because = record {
     nearest = record { known = omega arith; holds = record { from = omega arith; to = omega arith }; nearer-open = λ t l h d. absurd (omega (arith, d)) };
-    face = record { known = omega arith; passes = refl; none-lower = λ e l. absurd (not-suc-le-zero l) };
+    face = record { known = omega arith; passes = refl; none-lower = λ e l. absurd (omega (arith, l)) };
+    by = refl;
+  };
+}
+
+-- The reason of number 1 where the root is wholly above the one face.
+root-above : Holds reason-inside-with-branch
+unfolding lesser greater sumTo allTo anyTo leastFrom greatestFrom rootBox aboveAt isSettled isOpen branches
+root-above = record {
+  slot = 0;
+  stands = record { known = omega arith; number = refl };
+  because = record {
+    nearest = record { known = omega arith; holds = record { from = omega arith; to = omega arith }; nearer-open = λ t l h d. absurd (omega (arith, d)) };
+    above-all = one;
+  };
+}
+  where
+    one : (e : ℕ) → e < 1 → whollyAbove (cut shelfA rightOfOne) (rootBox (pointOf (shelfA .lent)) (slots shelfA)) e ≡ true
+    one zero l = refl
+    one (suc e) l = absurd (omega arith)
+
+-- Both branches of the two points are open.
+pair-open : let bs : List Branch = shelfBranches 1 (pointOf (pair .lent)) (slots pair) in
+    (t : ℕ) → t < length bs → isOpen (cut pair fromFive) (branchAt bs t .box) ≡ true
+unfolding lesser greater sumTo allTo anyTo leastFrom greatestFrom rootBox aboveAt isSettled isOpen branches
+pair-open zero l = refl
+pair-open (suc zero) l = refl
+pair-open (suc (suc t)) l = absurd (omega arith)
+
+-- The reasons of the two points.
+node-inside : Holds reason-inside-by-itself
+unfolding lesser greater sumTo allTo anyTo leastFrom greatestFrom rootBox aboveAt isSettled isOpen branches
+node-inside = record {
+  slot = 1;
+  stands = record { known = omega arith; number = refl };
+  because = record { own-slot = refl; none-settled = record { every-open = λ t l h. pair-open t l }; above-all = one };
+}
+  where
+    one : (e : ℕ) → e < 1 → above (cut pair fromFive) e (pointOf (pair .lent) 1) ≡ true
+    one zero l = refl
+    one (suc e) l = absurd (omega arith)
+
+left-outside : Holds reason-outside-by-itself
+unfolding lesser greater sumTo allTo anyTo leastFrom greatestFrom rootBox aboveAt isSettled isOpen branches
+left-outside = record {
+  slot = 0;
+  stands = record { known = omega arith; number = refl };
+  because = record {
+    own-slot = refl;
+    none-settled = record { every-open = λ t l h. pair-open t l };
+    face = record { known = omega arith; passes = refl; none-lower = λ e l. absurd (omega arith) };
     by = refl;
   };
 }
@@ -1614,7 +1697,7 @@ left-below = record {
   stands = record { known = omega arith; number = refl };
   because = record {
     nearest = record { known = omega arith; holds = record { from = omega arith; to = omega arith }; nearer-open = λ t l h d. root-open t l d };
-    face = record { known = omega arith; passes = refl; none-lower = λ e l. absurd (not-suc-le-zero l) };
+    face = record { known = omega arith; passes = refl; none-lower = λ e l. absurd (omega (arith, l)) };
     by = refl;
   };
 }
@@ -1777,6 +1860,8 @@ examples-hold =
     also explain-open-branch-inside by refl
     also explain-whole-shelf-inside by refl
     also explain-whole-shelf-outside by refl
+    also explain-branch-inside by refl
+    also explain-whole-shelf-on-an-open-face by refl
     also explain-no-faces by refl
     also explain-face-of-the-box by refl
     also explain-lowest-face-of-the-box by refl
@@ -1792,16 +1877,21 @@ examples-hold =
     also explain-refuses-h by refl
     also explain-refuses-normals by refl
     also explain-refuses-component by refl
+    also explain-refuses-offset-before-mark by refl
     also explain-refuses-mark by refl
     also explain-refuses-order by refl
     also explain-refuses-number by refl
     also explain-refuses-number-of-none by refl
     also reason-nearest-the-root by root-below
+    also reason-inside-with-branch by root-above
+    also reason-inside-by-itself by node-inside
+    also reason-outside-by-itself by left-outside
     also reason-lowest-face by left-below
     also regions-three by (refl, refl, refl)
     also regions-one by (refl, refl, refl)
     also regions-with-marks by (refl, refl, refl)
     also regions-most by (refl, refl, refl)
+    also regions-most-faces by (refl, refl, refl)
     also regions-refuse-65 by (refl, refl, refl)
     also regions-refuse-none by (refl, refl, refl)
     also regions-refuse-count-before-room by (refl, refl, refl)

@@ -11,9 +11,8 @@ use Rattle.terms.specs.Tests.{allTo, lowestTo}
 use Rattle.terms.specs.Before.{before}
 use Rattle.terms.specs.Run.{middle, axis, node, lefts, rights}
 use Rattle.terms.specs.Box.{Box, leftBox, rightBox, rootBox}
-use Rattle.terms.specs.Region.{Region, whollyAbove, whollyBelow}
+use Rattle.terms.specs.Region.{Region, isBelow, whollyAbove, whollyBelow}
 use Rattle.terms.specs.Margin.{margin}
-use Rattle.terms.specs.Reason.{isBelow}
 
 -- What a point's own test gives in slot s.
 unfoldable pub ownReason : Region → (ℕ → ℤ) → ℕ → Reason
@@ -27,8 +26,8 @@ branchReason g x b s rest =
     let f : ℕ = lowestTo (g .h) (whollyBelow g b) in
     cond (eqb f (g .h)) (cond (allTo (g .h) (whollyAbove g b)) (InsideWithBranch s) rest) (OutsideWithBranch s f (margin g f x))
 
--- The reason of number p in a run from slot a on, at depth j and with box b. The run's length is enough for the first number; a number that stands in the run
--- never meets an empty one.
+-- The reason of number p in a run from slot a on, at depth j and with box b. The run's length is enough for the first number; a number of a run that
+-- is a tree never meets an empty one.
 unfoldable pub reasonIn : ℕ → Region → (ℕ → ℕ → ℤ) → ℕ → ℕ → ℕ → List ℕ → Box → Reason
 reasonIn zero g at p a j run b = InsideByItself 0
 reasonIn (suc f) g at p a j [] b = InsideByItself 0

@@ -3,11 +3,12 @@ use mathlib.Core.Path.{_≡_}
 use mathlib.Core.List.{List, _++_}
 use Prim.Native.Nat.{ℕ}
 use lib.ListN.{length, drop}
+use lib.IntN.{ℤ}
 use Rattle.terms.specs.declared.Listing.{Listing}
 use Rattle.terms.specs.Lent.{Stock, Order, Faces}
 use Rattle.terms.specs.Points.{pointOf, slotsOf}
 use Rattle.terms.specs.Tree.{shelfRun}
-use Rattle.terms.specs.Region.{region}
+use Rattle.terms.specs.Region.{Region, region}
 use Rattle.terms.specs.Visits.{visits}
 use Rattle.terms.specs.Lists.{insides, outsides, places}
 use Rattle.terms.specs.Refusals.{Refusal, firstOf, stockRefusals, roomRefusals, coordinateRefusals, faceRefusals, treeRefusals, ifDone}
@@ -22,6 +23,10 @@ listRefusals s o f list =
     ++ faceRefusals (s .k) f
     ++ treeRefusals s o
 
+-- The answer to a run against a region: how many are inside, how many outside, and the visits.
+abbrev pub listing : Region → (ℕ → ℕ → ℤ) → List ℕ → Listing
+listing g at run = record { code = 0; inside = length (insides g at run); outside = length (outsides g at run); visits = visits g at run }
+
 module _ (s : Stock) (o : Order) (f : Faces) (list : List ℕ) where
   -- The number that the list call returns.
   unfoldable pub listCode : ℕ
@@ -31,12 +36,7 @@ module _ (s : Stock) (o : Order) (f : Faces) (list : List ℕ) where
   unfoldable pub listAnswer : Listing
   listAnswer = ifDone
       listCode
-      (record {
-        code = 0;
-        inside = length (insides (region (s .k) f) (pointOf s) (shelfRun s o));
-        outside = length (outsides (region (s .k) f) (pointOf s) (shelfRun s o));
-        visits = visits (region (s .k) f) (pointOf s) (shelfRun s o);
-      })
+      (listing (region (s .k) f) (pointOf s) (shelfRun s o))
       (record { code = listCode; inside = 0; outside = 0; visits = 0 })
 
   -- The list buffer after the list call: the first n places are the two lists, the later ones are as they were; refused, all are.

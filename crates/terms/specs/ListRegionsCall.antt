@@ -9,7 +9,8 @@ use Rattle.terms.specs.Points.{pointOf, slotsOf}
 use Rattle.terms.specs.Tree.{shelfRun}
 use Rattle.terms.specs.Region.{Region, region}
 use Rattle.terms.specs.Lists.{places}
-use Rattle.terms.specs.ThreeCounts.{threeCounts}
+use Rattle.terms.specs.ListCall.{listing}
+use Rattle.terms.specs.ThreeCounts.{countsOf}
 use Rattle.terms.specs.RegionFaces.{joinedFaces, facesOfRegion}
 use Rattle.terms.specs.EndToEnd.{endToEnd}
 use Rattle.terms.specs.Refusals.{Refusal, firstOf, stockRefusals, regionCountRefusals, roomRefusals, coordinateRefusals, faceCountsRefusals, faceSliceRefusals, treeRefusals, ifDone}
@@ -42,7 +43,7 @@ regionPlaces k g at run r = places (regionAt k g r) at run
 
 -- The counts of region r of a run: inside, outside and visits.
 abbrev pub regionCounts : ℕ → Regions → (ℕ → ℕ → ℤ) → List ℕ → ℕ → List ℕ
-regionCounts k g at run r = threeCounts (regionAt k g r) at run
+regionCounts k g at run r = countsOf (listing (regionAt k g r) at run)
 
 module _ (s : Stock) (o : Order) (g : Regions) (lists counts : List ℕ) where
   -- The number that the call returns.

@@ -1,19 +1,15 @@
 -- Why a number of a shelf is inside or outside, as a relation: what each of the four reasons says of the branches that hold the number's slot, and of its point.
 use mathlib.Core.Path.{_≡_}
-use mathlib.Core.Bool.{Bool, true, false, not}
+use mathlib.Core.Bool.{Bool, true, false}
 use mathlib.Core.List.{List}
 use Prim.Native.Nat.{ℕ, _<_}
 use lib.ListN.{length, getD}
 use lib.IntN.{ℤ}
 use Rattle.terms.specs.declared.Reason.{Reason}
 use Rattle.terms.specs.declared.Reason.the-variants.{InsideWithBranch, InsideByItself, OutsideWithBranch, OutsideByItself}
-use Rattle.terms.specs.Region.{Region, above, whollyAbove, whollyBelow, isOpen}
+use Rattle.terms.specs.Region.{Region, above, isBelow, whollyAbove, whollyBelow, isOpen}
 use Rattle.terms.specs.Margin.{margin}
 use Rattle.terms.specs.Branches.{Branch, Holds, branchAt, shelfBranches}
-
--- The point is below face i.
-abbrev pub isBelow : Region → (ℕ → ℤ) → ℕ → Bool
-isBelow g x i = not (above g i x)
 
 -- Face f passes the test, and no lower one does.
 pub record Lowest (h : ℕ) (test : ℕ → Bool) (f : ℕ) : Type 0 where

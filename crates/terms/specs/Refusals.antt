@@ -40,21 +40,25 @@ sizeRefusals n = record { number = 2; holds = ltb 65535 n } ∷ []
 abbrev pub lengthRefusals : ℕ → List ℤ → List Refusal
 lengthRefusals size points = record { number = 3; holds = notLong size points } ∷ []
 
--- 4: the order, or a list buffer, has room for fewer numbers than there are slots.
+-- 4: a lent order or buffer has fewer places than it must.
 abbrev pub roomRefusals : ℕ → ℕ → List Refusal
-roomRefusals slots room = record { number = 4; holds = ltb room slots } ∷ []
+roomRefusals places room = record { number = 4; holds = ltb room places } ∷ []
 
 -- 5: a coordinate is out of range.
 abbrev pub coordinateRefusals : List ℤ → List Refusal
 coordinateRefusals points = record { number = 5; holds = not (every isCoordinate points) } ∷ []
 
+-- A region has at most 32 faces.
+abbrev pub isFaceCount : ℕ → Bool
+isFaceCount h = leb h 32
+
 -- 6: h is over 32.
 abbrev pub faceCountRefusals : ℕ → List Refusal
 faceCountRefusals h = record { number = 6; holds = ltb 32 h } ∷ []
 
--- 6: a region has over 32 faces.
+-- 6: some region has over 32 faces.
 abbrev pub faceCountsRefusals : List ℕ → List Refusal
-faceCountsRefusals faceCounts = record { number = 6; holds = not (every (λ h. leb h 32) faceCounts) } ∷ []
+faceCountsRefusals faceCounts = record { number = 6; holds = not (every isFaceCount faceCounts) } ∷ []
 
 -- 7: the normals are not k times h, or the offsets not h.
 abbrev pub faceLengthRefusals : ℕ → ℕ → List ℤ → List ℤ → List Refusal

@@ -59,9 +59,13 @@ isMark m = leb m 1
 unfoldable pub aboveAt : Region → ℕ → ℤ → Bool
 aboveAt g i v = cond (g .markedOpen i) (ltZ (g .offset i) v) (leZ (g .offset i) v)
 
--- The point is above face i; otherwise it is below.
+-- The point is above face i.
 abbrev pub above : Region → ℕ → (ℕ → ℤ) → Bool
 above g i x = aboveAt g i (reach g i x)
+
+-- The point is below face i.
+abbrev pub isBelow : Region → (ℕ → ℤ) → ℕ → Bool
+isBelow g x i = not (above g i x)
 
 -- The point is inside: above every face.
 unfoldable pub inside : Region → (ℕ → ℤ) → Bool

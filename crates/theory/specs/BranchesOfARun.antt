@@ -9,7 +9,7 @@ use lib.Seq.{getD-at, getD-append-add}
 use lib.IntN.{ℤ}
 use Rattle.terms.specs.Run.{middle, axis, node, lefts, rights}
 use Rattle.terms.specs.Box.{Box, leftBox, rightBox, rootBox, boxes, shelfBoxes}
-use Rattle.terms.specs.Branches.{Branch, nodeSlot, Holds, branches, shelfBranches, noBranch, branchAt}
+use Rattle.terms.specs.Branches.{Branch, nodeSlot, branches, shelfBranches, noBranch, branchAt}
 use Rattle.theory.specs.RunParts.{left-length, right-length}
 use Rattle.theory.specs.RunSides.{Side, side, at-node, on-left, on-right}
 use Rattle.theory.specs.BoxFuel.{boxes-length}

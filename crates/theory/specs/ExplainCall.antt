@@ -2,8 +2,8 @@
 -- lists and visits.
 use mathlib.Core.Path.{_≡_, refl, sym, ap, _∙_}
 use mathlib.Core.Bool.{Bool, true, false, _&&_, _||_}
-use mathlib.Core.List.{List, _++_}
-use Prim.Native.Nat.{ℕ, _≤_, _<_}
+use mathlib.Core.List.{List}
+use Prim.Native.Nat.{ℕ, zero, suc, _≤_, _<_}
 use native.Mathlib.Omega.{arith}
 use lib.ListN.{length, getD}
 use lib.IntN.{ℤ}
@@ -11,25 +11,25 @@ use lib.Dec.{eqb}
 use borrow.Author.Tests.{eqb-true}
 use Rattle.terms.specs.declared.Reason.{Reason}
 use Rattle.terms.specs.declared.Reason.the-variants.{InsideWithBranch, InsideByItself, OutsideWithBranch, OutsideByItself}
-use Rattle.terms.specs.Tests.{bit, count, keep}
+use Rattle.terms.specs.Tests.{bit, count}
 use Rattle.terms.specs.Lent.{Stock, Order, Faces}
 use Rattle.terms.specs.Points.{pointOf, belongsTo, slotsOf}
-use Rattle.terms.specs.Tree.{eachOnce, isTree, shelfRun, isShelf}
+use Rattle.terms.specs.Tree.{eachOnce, isTree, shelfRun}
 use Rattle.terms.specs.Region.{Region, region, inside}
 use Rattle.terms.specs.Lists.{insides}
 use Rattle.terms.specs.Reason.{InRun, ReasonFor}
 use Rattle.terms.specs.Explain.{reasonOf}
-use Rattle.terms.specs.Refusals.{Refusal, firstOf, numberRefusals}
+use Rattle.terms.specs.Refusals.{firstOf, numberRefusals, ifDone}
 use Rattle.terms.specs.ScreenCall.{screenRefusals, screenCode}
 use Rattle.terms.specs.ListCall.{listCode}
 use Rattle.terms.specs.ExplainCall.{explainRefusals, explaining, explainCode, explainAnswer}
-use Rattle.theory.specs.Flags.{and-true, false-not}
+use Rattle.theory.specs.Flags.{and-true}
 use Rattle.theory.specs.Counting.{count-keep, count-same, count-no}
 use Rattle.theory.specs.EachNumberOnce.{each-once, stock-under}
-use Rattle.theory.specs.FirstRefusal.{FirstHeld, noZero, first-held, passed-parts, first-stop}
+use Rattle.theory.specs.FirstRefusal.{FirstHeld, noZero, first-held, passed-parts, first-skip, first-stop}
 use Rattle.theory.specs.RefusalsPassed.{number-passed}
 use Rattle.theory.specs.CheckCall.{room-same}
-use Rattle.theory.specs.ScreenCall.{ScreenPassed, screen-tests-passed, screen-code-is-list-code}
+use Rattle.theory.specs.ScreenCall.{ScreenPassed, screen-tests-passed, screen-first, screen-code-is-list-code}
 use Rattle.theory.specs.Reasons.{saysInside, saysItself, tree-run, number-stands, reason-true, because-only}
 
 -- The answer's number says inside: 1 or 2.
@@ -97,6 +97,15 @@ module _ (s : Stock) (o : Order) (f : Faces) (p : ℕ) where
   pub explain-code-is-list-code : belongsTo s p ≡ true → (list : List ℕ) → slotsOf s ≤ length list → explainCode s o f p ≡ listCode s o f list
   unfolding explainCode screenCode firstOf
   explain-code-is-list-code b list room = rw b (screen-code-is-list-code s o f list room)
+
+  -- "Then 13, tested last": of a number that does not belong, 13 where the list call is accepted, and else its number.
+  pub explain-code-otherwise : belongsTo s p ≡ false → (list : List ℕ) → slotsOf s ≤ length list → explainCode s o f p ≡ ifDone (listCode s o f list) 13 (listCode s o f list)
+  unfolding explainCode screenCode firstOf
+  explain-code-otherwise b list room = rw (← screen-code-is-list-code s o f list room) (go (screenCode s o f) refl)
+    where
+      go : (c : ℕ) → screenCode s o f ≡ c → firstOf (explainRefusals s o f p) ≡ ifDone c 13 c
+      go zero e = first-skip (screenRefusals s o f) (numberRefusals s p) (screen-first s o f .done e) ∙ rw b refl
+      go (suc c) e = first-stop (screenRefusals s o f) (numberRefusals s p) (λ z. absurd (omega (arith, e, z))) ∙ e
 
   module _ (w : ExplainPassed s o f p) where
     abbrev g : Region

@@ -3,11 +3,10 @@
 use mathlib.Core.Path.{_≡_, refl, ap, fun-ext, _∙_}
 use mathlib.Core.Bool.{Bool, true, false, cond}
 use mathlib.Core.Logic.{_⊎_, inl, inr, ⊎-elim}
-use mathlib.Core.List.{List, [], _∷_}
 use Prim.Native.Nat.{ℕ, zero, suc, _+_, _-_, _≤_, _<_}
 use native.Mathlib.Nat.{mul-le-mul}
 use native.Mathlib.Omega.{arith}
-use lib.ListN.{length, getD}
+use lib.ListN.{getD}
 use lib.IntN.{ℤ, pos, negsuc, natAbs, _*ℤ_, _-ℤ_}
 use lib.Signed.{_≤ℤ_, _<ℤ_, leZ, ltZ}
 use lib.Dec.{ltb, eqb}
@@ -18,9 +17,8 @@ use Rattle.whole.specs.Order.{le-refl, le-of-eq, le-of-lt, le-leZ, leZ-le, leZ-
 use Rattle.whole.specs.Magnitudes.{abs-mul, abs-dif}
 use Rattle.whole.specs.IndexedSum.{sum-abs}
 use Rattle.terms.specs.Tests.{keep, pick, allTo, rising}
-use Rattle.terms.specs.Box.{leastFrom}
 use Rattle.terms.specs.Screen.{first}
-use Rattle.terms.specs.Region.{Region, reach, aboveAt, above, inside}
+use Rattle.terms.specs.Region.{Region, reach, aboveAt, inside}
 use Rattle.terms.specs.Margin.{margin, leastTo, lowestLeast, leastMargin, leastFace}
 use Rattle.theory.specs.Flags.{same-test, clash}
 use Rattle.theory.specs.AllAndAny.{all-each, each-all, all-same}

@@ -1,7 +1,7 @@
 -- The reason read off the branches on the way, one after the other: it is as the four cases say, and no other is. A settled branch in front decides; an open one
 -- in front changes nothing.
 use mathlib.Core.Path.{_≡_, refl, sym, ap, _∙_}
-use mathlib.Core.Bool.{Bool, true, false, not}
+use mathlib.Core.Bool.{Bool, true, false}
 use mathlib.Core.Logic.{_⊎_, inl, inr}
 use mathlib.Core.List.{List, [], _∷_}
 use Prim.Native.Nat.{ℕ, zero, suc, _<_}
@@ -9,18 +9,17 @@ use native.Mathlib.Nat.{not-suc-le-zero, le-of-suc-le-suc}
 use native.Mathlib.Omega.{arith}
 use lib.ListN.{length}
 use lib.IntN.{ℤ}
-use lib.Dec.{eqb}
 use borrow.Author.Tests.{eq-eqb, ne-eqb}
 use Rattle.terms.specs.declared.Reason.{Reason}
 use Rattle.terms.specs.declared.Reason.the-variants.{InsideWithBranch, InsideByItself, OutsideWithBranch, OutsideByItself}
 use Rattle.terms.specs.Tests.{allTo, lowestTo}
 use Rattle.terms.specs.Box.{Box}
-use Rattle.terms.specs.Region.{Region, above, inside, whollyAbove, whollyBelow, isOpen}
+use Rattle.terms.specs.Region.{Region, above, isBelow, whollyAbove, whollyBelow, isOpen}
 use Rattle.terms.specs.Margin.{margin}
 use Rattle.terms.specs.Branches.{Branch, nodeSlot, branchAt}
-use Rattle.terms.specs.Reason.{isBelow, Lowest}
+use Rattle.terms.specs.Reason.{Lowest}
 use Rattle.terms.specs.Explain.{ownReason, branchReason}
-use Rattle.theory.specs.Flags.{clash, not-true, not-false, false-not}
+use Rattle.theory.specs.Flags.{clash, not-false, false-not}
 use Rattle.theory.specs.AllAndAny.{each-all, all-each, all-false, one-all-false}
 use Rattle.theory.specs.Boxes.{In}
 use Rattle.theory.specs.Nesting.{to-open, of-open, below-one-settled, above-all-settled}

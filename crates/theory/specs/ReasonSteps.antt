@@ -1,23 +1,25 @@
 -- The computed reason, a step at a time: what it is at a run that is not empty, that the depth counts only by the dimension of the split, that boxes with the same
 -- corners give the same, and in which branch of an open run a number stands.
 use mathlib.Core.Path.{_≡_, refl, sym, ap, _∙_}
-use mathlib.Core.Bool.{Bool, true, false, cond, not}
+use mathlib.Core.Bool.{true, false, cond, not}
 use mathlib.Core.Logic.{_⊎_, inl, inr, ⊎-elim, _≢_}
 use mathlib.Core.List.{List, [], _∷_}
-use Prim.Native.Nat.{ℕ, zero, suc, _+_, _-_, _%_, _≤_, _<_}
-use native.Mathlib.Nat.{not-suc-le-zero, suc-mod}
-use lib.ListN.{length, getD}
+use Prim.Native.Nat.{ℕ, zero, suc, _+_, _-_, _%_, _<_}
+use native.Mathlib.Nat.{not-suc-le-zero, suc-mod, zero-add}
+use native.Mathlib.Omega.{arith}
+use lib.ListN.{length}
 use lib.IntN.{ℤ}
 use lib.Dec.{eqb}
 use Rattle.terms.specs.declared.Reason.{Reason}
-use Rattle.terms.specs.Tests.{allTo, lowestTo}
+use Rattle.terms.specs.declared.Reason.the-variants.{InsideWithBranch}
+use Rattle.terms.specs.Tests.{lowestTo}
 use Rattle.terms.specs.Before.{before}
 use Rattle.terms.specs.Run.{middle, axis, node, lefts, rights}
 use Rattle.terms.specs.Tree.{treeRun}
-use Rattle.terms.specs.Box.{Box, leftBox, rightBox}
-use Rattle.terms.specs.Region.{Region, whollyAbove, whollyBelow}
-use Rattle.terms.specs.Reason.{isBelow, StandsIn, InRun}
-use Rattle.terms.specs.Explain.{ownReason, branchReason, reasonIn}
+use Rattle.terms.specs.Box.{Box, leftBox, rightBox, rootBox}
+use Rattle.terms.specs.Region.{Region, whollyAbove, whollyBelow, isBelow}
+use Rattle.terms.specs.Reason.{InRun}
+use Rattle.terms.specs.Explain.{ownReason, branchReason, reasonIn, reasonOf}
 use Rattle.theory.specs.Flags.{clash}
 use Rattle.theory.specs.AllAndAny.{all-same}
 use Rattle.theory.specs.Boxes.{Alike}
@@ -28,7 +30,8 @@ use Rattle.theory.specs.RunSides.{Side, side, at-node, on-left, on-right
 use Rattle.theory.specs.BeforeIsAnOrder.{before-asym}
 use Rattle.theory.specs.PointsAlike.{SamePoint, above-same-point}
 use Rattle.theory.specs.Margins.{margin-same-point}
-use Rattle.theory.specs.LowestThatPasses.{lowest-same}
+use Rattle.theory.specs.LowestThatPasses.{lowest-same, none-lowest}
+use Rattle.theory.specs.ReasonOnTheWay.{branch-above}
 
 -- What follows at an open run whose node q stands in slot s: the own test of q's number, or the branch on the side of p. The left branch starts at slot a, the
 -- right one at slot after.
@@ -49,6 +52,16 @@ pub reason-step : (f : ℕ) (g : Region) (at : ℕ → ℕ → ℤ) (p a j : ℕ
 unfolding reasonIn
 reason-step f g at p a j [] b some = absurd (not-suc-le-zero some)
 reason-step f g at p a j (x ∷ xs) b some = refl
+
+-- "With no faces" the root is wholly above all of them, and its node stands in the middle.
+pub reason-no-faces : (g : Region) (at : ℕ → ℕ → ℤ) (run : List ℕ) (p : ℕ) → g .h ≡ 0 → 0 < length run → reasonOf g at run p ≡ InsideWithBranch (middle (length run))
+unfolding reasonOf
+reason-no-faces g at [] p none some = absurd (not-suc-le-zero some)
+reason-no-faces g at (x ∷ xs) p none some =
+    let root : Box = rootBox at (x ∷ xs) in
+    reason-step (length xs) g at p 0 0 (x ∷ xs) root some
+    ∙ branch-above g (at p) root _ _ (none-lowest (g .h) (whollyBelow g root) (λ i l. absurd (omega arith))) (λ e l. absurd (omega arith))
+    ∙ ap InsideWithBranch (zero-add (middle (length (x ∷ xs))))
 
 pub reason-depth : (f : ℕ) (g : Region) (at : ℕ → ℕ → ℤ) (p a i j : ℕ) (run : List ℕ) (b : Box) → axis (g .k) i ≡ axis (g .k) j
     → reasonIn f g at p a i run b ≡ reasonIn f g at p a j run b

@@ -17,24 +17,26 @@ use Rattle.terms.specs.Before.{before}
 use Rattle.terms.specs.Run.{middle, axis, node, lefts, rights}
 use Rattle.terms.specs.Tree.{treeRun, eachOnce, isTree}
 use Rattle.terms.specs.Box.{Box, rootBox}
-use Rattle.terms.specs.Region.{Region, above, inside, isOpen}
+use Rattle.terms.specs.Region.{Region, above, isBelow, inside, isOpen}
 use Rattle.terms.specs.Visits.{openSlots}
-use Rattle.terms.specs.Branches.{Branch, nodeSlot, Holds, branches, shelfBranches, noBranch, branchAt}
+use Rattle.terms.specs.Margin.{margin}
+use Rattle.terms.specs.Branches.{Branch, nodeSlot, Holds, shelfBranches, branchAt}
 use Rattle.terms.specs.Reason.{NearestRoot, NoneSettled, Because, StandsIn, InRun, ReasonFor}
 use Rattle.terms.specs.Explain.{reasonIn, reasonOf}
-use Rattle.theory.specs.Flags.{clash, and-true, not-true}
+use Rattle.theory.specs.Flags.{clash, and-true, not-true, true-not}
 use Rattle.theory.specs.AllAndAny.{each-all, one-all-false}
 use Rattle.theory.specs.RunParts.{Parts, parts, left-length, right-length}
 use Rattle.theory.specs.RunSides.{Side, side, at-node, on-left, on-right}
 use Rattle.theory.specs.BeforeIsAnOrder.{before-asym, before-self}
 use Rattle.theory.specs.EachNumberOnce.{each-once}
+use Rattle.theory.specs.Boxes.{In}
 use Rattle.theory.specs.BoxLaws.{held-root}
 use Rattle.theory.specs.Nesting.{settled-nested, below-one-settled, above-all-settled}
-use Rattle.theory.specs.Containment.{above-all-inside, below-one-outside}
+use Rattle.theory.specs.Containment.{wholly-below-point, above-all-inside, below-one-outside}
 use Rattle.theory.specs.LowestThatPasses.{lowest-one}
 use Rattle.theory.specs.BranchesOfARun.{leftOf, rightOf, branches-length, branch-placed, shelf-branches-boxes}
-use Rattle.theory.specs.Way.{way, way-node, way-left, way-right, WayTold, WayIn, way-told}
-use Rattle.theory.specs.ReasonOnTheWay.{AboveEvery, BelowFirst, OpenBefore, NearestOn, OwnOn, BecauseOn, reasonOn, EachHolds, on-way-true, on-way-only}
+use Rattle.theory.specs.Way.{way, way-node, way-left, way-right, WayTold, way-told}
+use Rattle.theory.specs.ReasonOnTheWay.{AboveEvery, BelowFirst, OpenBefore, NearestOn, BecauseOn, reasonOn, EachHolds, on-way-true, on-way-only}
 
 -- ---- the relation and the way
 
@@ -191,6 +193,13 @@ named-more l k (InsideByItself s) z = omega arith
 named-more l k (OutsideWithBranch s f m) z = (omega (arith, z .0), omega (arith, z .1))
 named-more l k (OutsideByItself s f m) z = (omega (arith, z .0), omega (arith, z .1))
 
+-- What it says of a point: where it names a face, that the point is below it, by the margin that it gives.
+abbrev pub SaidOf : Region → (ℕ → ℤ) → Reason → Type 0
+SaidOf g x (InsideWithBranch s) = Unit {0}
+SaidOf g x (InsideByItself s) = Unit {0}
+SaidOf g x (OutsideWithBranch s f m) = (isBelow g x f ≡ true) × (m ≡ margin g f x)
+SaidOf g x (OutsideByItself s f m) = (isBelow g x f ≡ true) × (m ≡ margin g f x)
+
 -- Inside is said exactly where the point is inside.
 inside-said : (g : Region) (x : ℕ → ℤ) (i : ℕ) (w : List Branch) → EachHolds (g .k) x w → (r : Reason) → BecauseOn g w x i r → saysInside r ≡ inside g x
 unfolding inside
@@ -267,6 +276,19 @@ module _ (g : Region) (at : ℕ → ℕ → ℤ) (run : List ℕ) (tree : treeRu
           go (InsideByItself s) z = own (z .own-slot)
           go (OutsideWithBranch s f m) z = (omega (arith, z .nearest .known, many), z .face .known)
           go (OutsideByItself s f m) z = (own (z .own-slot), z .face .known)
+
+      -- The point lies in the box of the settled branch, so that it is below the face that the box is wholly below.
+      pub because-below : SaidOf g (at p) r
+      because-below = go r z
+        where
+          go : (r : Reason) → Because g bs (at p) i r → SaidOf g (at p) r
+          go (InsideWithBranch s) z = tt
+          go (InsideByItself s) z = tt
+          go (OutsideWithBranch s f m) z =
+              let q = shelf-way .all s (z .nearest .known) (z .nearest .holds) in
+              let here = subst (λ (b : Branch). In (g .k) (b .box) (at p)) (q .2) (each-holds (q .0) (q .1)) in
+              (true-not (wholly-below-point g here f (z .face .passes)), z .by)
+          go (OutsideByItself s f m) z = (z .face .passes, z .by)
 
       pub because-inside : saysInside r ≡ inside g (at p)
       because-inside = inside-said g (at p) i w each-holds r on

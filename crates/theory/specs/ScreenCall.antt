@@ -1,25 +1,22 @@
 -- The screen call: the first refusal is its number, what it has tested where that is 0, what it reads of the order, and how its answer stands to the list call's.
 -- The screen's visits are a first part of the open slots, and all of them where none is inside.
-use mathlib.Core.Path.{_≡_, refl, ap, sym, _∙_}
+use mathlib.Core.Path.{_≡_, refl, _∙_}
 use mathlib.Core.Bool.{true}
-use mathlib.Core.List.{List, [], _∷_, _++_, map}
-use Prim.Native.Nat.{ℕ, zero, suc, _+_, _≤_, _<_}
+use mathlib.Core.List.{List, [], _++_}
+use Prim.Native.Nat.{ℕ, _+_, _≤_}
 use native.Mathlib.Omega.{arith}
 use lib.ListN.{length, take, length-map}
 use lib.Seq.{take-length}
 use lib.IntN.{ℤ}
-use lib.Dec.{ltb}
 use borrow.Author.Tests.{le-ltb}
-use Rattle.terms.specs.declared.Screening.{Screening}
-use Rattle.terms.specs.Tests.{count}
 use Rattle.terms.specs.Lent.{Stock, Order, Faces}
-use Rattle.terms.specs.Points.{pointOf, slotsOf}
+use Rattle.terms.specs.Points.{slotsOf}
 use Rattle.terms.specs.Tree.{shelfRun, isShelf}
 use Rattle.terms.specs.Box.{rootBox, shelfBoxes}
-use Rattle.terms.specs.Region.{Region, region, inside, isOpen}
+use Rattle.terms.specs.Region.{Region, inside, isOpen}
 use Rattle.terms.specs.Visits.{openSlots, visits}
 use Rattle.terms.specs.Lists.{insides}
-use Rattle.terms.specs.Screen.{hasFirst, first, insideSlots, upToFirst, screenVisits}
+use Rattle.terms.specs.Screen.{insideSlots, upToFirst, screenVisits}
 use Rattle.terms.specs.Refusals.{Refusal, firstOf, faceRefusals, treeRefusals}
 use Rattle.terms.specs.BuildCall.{buildRefusals}
 use Rattle.terms.specs.ListCall.{listCode}

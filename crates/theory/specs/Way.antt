@@ -1,7 +1,7 @@
 -- The way to a slot: the branches from the run's own down to the one whose node stands in the slot. They are all the branches that hold the slot, by depth; each
 -- holds the point of the slot's number, and the slot's own box lies within each.
 use mathlib.Core.Path.{_≡_, refl, sym, ap, _∙_}
-use mathlib.Core.Bool.{Bool, true, false, cond}
+use mathlib.Core.Bool.{true, cond}
 use mathlib.Core.List.{List, [], _∷_}
 use Prim.Native.Nat.{ℕ, zero, suc, _+_, _-_, _≤_, _<_}
 use native.Mathlib.Decide.{decLt}

@@ -1,14 +1,11 @@
 -- The way down to a number, which calls itself on ever shorter runs: the measure is the run's length. A settled branch has its reason; an open one goes to its
 -- node's own test or to the branch on the number's side.
-use mathlib.Core.Path.{_≡_, refl, sym, _∙_}
-use mathlib.Core.Bool.{true, false}
-use Prim.Native.Nat.{ℕ, _<_, _+_, _/_, _^_}
+use mathlib.Core.Path.{refl, _∙_}
+use Prim.Native.Nat.{ℕ, _<_, _+_}
 use native.Mathlib.Omega.{arith}
 use borrow.Author.Needs.{sfits-of}
 use mir.Facts.{toZ-ofZ}
 use Rattle.terms.specs.Lent.{facesOf}
-use Rattle.terms.specs.Points.{coord}
-use Rattle.descent.specs.Slots.{ownOf}
 use Rattle.region.specs.Ranges.{has-margin}
 use Rattle.reason.specs.Find.{some, node-known, found-below, found-above, found-own, side-shorter, sought-side, found-side}
 use borrow.Fn.Kinds.{In}

@@ -1,5 +1,5 @@
 -- `own_reason` meets its contract: the lowest face that the point is below, or the number of faces where there is none, decides between the two cases.
-use mathlib.Core.Path.{_≡_, refl, sym, ap, _∙_}
+use mathlib.Core.Path.{sym}
 use Prim.Native.Nat.{_<_}
 use native.Mathlib.Omega.{arith}
 use lib.ListN.{length}
@@ -8,11 +8,11 @@ use mir.Facts.{toZ-ofZ}
 use Rattle.terms.specs.Tests.{lowestTo}
 use Rattle.terms.specs.Lent.{facesOf}
 use Rattle.terms.specs.Points.{lone}
-use Rattle.terms.specs.Reason.{isBelow}
+use Rattle.terms.specs.Region.{isBelow}
 use Rattle.theory.specs.LowestThatPasses.{lowest-stops}
 use Rattle.theory.specs.ReasonOnTheWay.{own-inside, own-outside}
 use Rattle.region.specs.Table.{tabled}
-use Rattle.region.specs.Ranges.{HasRow, has-margin}
+use Rattle.region.specs.Ranges.{has-margin}
 use Rattle.reason.proofs.way.own_reason.Statement.{statement}
 use Rattle.reason.proofs.way.own_reason.Tie as tie
 

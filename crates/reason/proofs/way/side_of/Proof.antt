@@ -1,5 +1,5 @@
 -- `side_of` meets its contract: the node's coordinate on the dimension of the split is the one that both branches' boxes have, and the comparison says which.
-use mathlib.Core.Path.{_≡_, sym, _∙_}
+use mathlib.Core.Path.{_∙_}
 use borrow.Author.Needs.{needs, sfits-of}
 use mir.Syntax.{w32}
 use mir.Facts.{toZ-ofZ}

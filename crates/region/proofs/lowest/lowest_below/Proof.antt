@@ -1,6 +1,6 @@
 -- `lowest_below` meets its contract. After i turns the point is below none of the first i faces; so the first that it is below is the lowest.
 use mathlib.Core.Path.{_≡_, refl, sym, _∙_}
-use mathlib.Core.Bool.{true, false}
+use mathlib.Core.Bool.{false}
 use Prim.Native.Nat.{ℕ, _≤_, _<_, _-_}
 use native.Mathlib.Omega.{arith}
 use lib.ListN.{length}
@@ -9,8 +9,7 @@ use borrow.Author.Needs.{sfits-of}
 use mir.Facts.{toZ-ofZ}
 use Rattle.terms.specs.Lent.{facesOf}
 use Rattle.terms.specs.Points.{lone}
-use Rattle.terms.specs.Region.{reach, above}
-use Rattle.terms.specs.Reason.{isBelow}
+use Rattle.terms.specs.Region.{reach, above, isBelow}
 use Rattle.theory.specs.Flags.{not-true, not-false, true-not, false-not}
 use Rattle.theory.specs.LowestThatPasses.{stops-lowest}
 use Rattle.region.specs.Table.{tabled}
