@@ -22,9 +22,12 @@ use Rattle.terms.specs.declared.Reason.{Reason}
 use Rattle.terms.specs.declared.Reason.the-variants.{InsideWithBranch, InsideByItself, OutsideWithBranch, OutsideByItself}
 use Rattle.terms.specs.Tests.{count, every, keep, allTo, anyTo, lowestTo, rising}
 use Rattle.terms.specs.Lent.{Stock, Order, Faces, Regions, stock, orderOf, faces, regions}
+use Rattle.terms.specs.Live.{isLive, liveCount, lowestDead}
+use Rattle.terms.specs.LivePoints.{membersInRange, takenPoints}
+use Rattle.terms.specs.Changes.{Change, taken, withdrawn, refused, mayChangeAll, changedAll}
 use Rattle.terms.specs.Points.{coord, pointOf, slotsOf}
 use Rattle.terms.specs.Before.{before}
-use Rattle.terms.specs.Tree.{treeRun, eachOnce, isTree, shelfRun, isShelf}
+use Rattle.terms.specs.Tree.{treeRun, members, eachOnce, isTree, shelfRun, isShelf}
 use Rattle.terms.specs.Box.{Box, leastFrom, greatestFrom, rootBox, boxes, shelfBoxes}
 use Rattle.terms.specs.Region.{Region, region, reach, aboveAt, above, inside, whollyAbove, isSettled, isOpen}
 use Rattle.terms.specs.Visits.{openSlots, visits}
@@ -94,6 +97,10 @@ pub data Row : Type 0 where
   attains : Shelf → Faces → Row
   squares : (k : ℕ) → Faces → List Bool → Row
   makes : Reading → (place : List ℤ) (answer : Making) (after : List ℤ) → Row
+  lives : (n : ℕ) (live numbers : List ℕ) (many lowest : ℕ) → Row
+  inRanges : (k n : ℕ) (points : List ℤ) (live : List ℕ) → Bool → Row
+  takes : (k n : ℕ) (points : List ℤ) (live : List ℕ) (point after : List ℤ) → Row
+  changes : (n : ℕ) (live : List ℕ) → List Change → (may : Bool) (after : List ℕ) → Row
 
 -- What it is for a row to hold: the call's definition gives what the row says.
 abbrev pub Holds : Row → Type 0
@@ -116,6 +123,11 @@ Holds (sums n k sum) = S n k ≡ sum
 Holds (attains s f) = visits (cut s f) (pointOf (s .lent)) (slots s) ≡ S (slotsOf (s .lent)) (s .lent .k)
 Holds (squares k f answers) = map (isSquare (region k f)) (rising 0 (f .h)) ≡ answers
 Holds (makes r place answer after) = (pointAnswer r place ≡ answer) × (pointAfter r place ≡ after)
+Holds (lives n live numbers many lowest) =
+    (members (isLive n live) n ≡ numbers) × (liveCount n live ≡ many) × (lowestDead n live ≡ lowest)
+Holds (inRanges k n points live answer) = membersInRange k (coord k points) (isLive n live) n ≡ answer
+Holds (takes k n points live point after) = takenPoints k n points live point ≡ after
+Holds (changes n live cs may after) = (mayChangeAll n live cs ≡ may) × (changedAll n live cs ≡ after)
 
 -- Every row of a table holds.
 infixr 20 _by_also_
@@ -1404,6 +1416,49 @@ regions-refuse-order = refusesRegions pairSwapped sameFaceTwice (replicate 5 7) 
 
 -- ---- the statement
 
+-- ---- live bytes
+-- Numbers 1 and 4 of six are dead.
+abbrev pub live-some : Row
+live-some = lives 6 (1 ∷ 0 ∷ 1 ∷ 1 ∷ 0 ∷ 1 ∷ []) (0 ∷ 2 ∷ 3 ∷ 5 ∷ []) 4 1
+
+-- With all bytes 1 no number is dead: the lowest would be n.
+abbrev pub live-all : Row
+live-all = lives 3 (1 ∷ 1 ∷ 1 ∷ []) (0 ∷ 1 ∷ 2 ∷ []) 3 3
+
+abbrev pub live-none : Row
+live-none = lives 2 (0 ∷ 0 ∷ []) [] 0 0
+
+-- A byte that is neither 0 nor 1 makes no number live.
+abbrev pub live-other-byte : Row
+live-other-byte = lives 2 (2 ∷ 1 ∷ []) (1 ∷ []) 1 0
+
+-- A number from n on is not live, whatever stands there.
+abbrev pub live-below-n : Row
+live-below-n = lives 1 (1 ∷ 1 ∷ []) (0 ∷ []) 1 1
+
+-- A dead number's coordinate may be any, a live number's may not.
+abbrev pub range-of-the-dead : Row
+range-of-the-dead = inRanges 2 2 (pos 7 ∷ minus 32768 ∷ pos 32768 ∷ pos 5 ∷ []) (1 ∷ 0 ∷ []) true
+
+abbrev pub range-of-the-live : Row
+range-of-the-live = inRanges 2 2 (pos 7 ∷ minus 32768 ∷ pos 32768 ∷ pos 5 ∷ []) (0 ∷ 1 ∷ []) false
+
+-- The point is written at number 1, the lowest dead of three.
+abbrev pub take-writes : Row
+take-writes =
+    takes 2 3 (pos 1 ∷ pos 2 ∷ pos 3 ∷ pos 4 ∷ pos 5 ∷ pos 6 ∷ []) (1 ∷ 0 ∷ 0 ∷ []) (pos 8 ∷ pos 9 ∷ []) (pos 1 ∷ pos 2 ∷ pos 8 ∷ pos 9 ∷ pos 5 ∷ pos 6 ∷ [])
+
+-- Freed room is used first.
+abbrev pub change-freed-first : Row
+change-freed-first = changes 3 (1 ∷ 1 ∷ 0 ∷ []) (withdrawn 0 ∷ refused ∷ taken ∷ []) true (1 ∷ 1 ∷ 0 ∷ [])
+
+-- A take lacks room where all are live, and a dead number is not withdrawn again.
+abbrev pub change-no-room : Row
+change-no-room = changes 2 (1 ∷ 0 ∷ []) (taken ∷ taken ∷ []) false (1 ∷ 1 ∷ [])
+
+abbrev pub change-withdrawn-twice : Row
+change-withdrawn-twice = changes 2 (1 ∷ 1 ∷ []) (withdrawn 1 ∷ withdrawn 1 ∷ []) false (1 ∷ 0 ∷ [])
+
 -- The table.
 abbrev pub table : List Row
 table =
@@ -1612,6 +1667,17 @@ table =
     ∷ regions-refuse-mark
     ∷ regions-refuse-missing-mark
     ∷ regions-refuse-order
+    ∷ live-some
+    ∷ live-all
+    ∷ live-none
+    ∷ live-other-byte
+    ∷ live-below-n
+    ∷ range-of-the-dead
+    ∷ range-of-the-live
+    ∷ take-writes
+    ∷ change-freed-first
+    ∷ change-no-room
+    ∷ change-withdrawn-twice
     ∷ []
 
 -- The reason of number 1 where the root is settled: no branch is nearer.
@@ -1704,7 +1770,7 @@ left-below = record {
 
 -- Every row holds of the calls as they are defined.
 pub examples-hold : All table
-unfolding lesser greater sumTo totalTo count every keep allTo anyTo rising before treeRun eachOnce isTree leastFrom greatestFrom rootBox boxes aboveAt inside isSettled isOpen openSlots visits digitsWithin digits S isSquare firstOf buildAnswer checkAnswer listCode listAnswer listAfter endToEnd listRegionsCode listsAfter countsAfter insideSlots upToFirst screenVisits leastTo lowestLeast screenCode screenAnswer placeCode placeAnswer ofBits inRange coordinateOf gives pointCode pointAnswer pointAfter lowestTo ownReason branchReason reasonIn reasonOf explainCode explainAnswer
+unfolding lesser greater sumTo totalTo count every keep allTo anyTo rising before treeRun eachOnce isTree leastFrom greatestFrom rootBox boxes aboveAt inside isSettled isOpen openSlots visits digitsWithin digits S isSquare firstOf buildAnswer checkAnswer listCode listAnswer listAfter endToEnd listRegionsCode listsAfter countsAfter insideSlots upToFirst screenVisits leastTo lowestLeast screenCode screenAnswer placeCode placeAnswer ofBits inRange coordinateOf gives pointCode pointAnswer pointAfter lowestTo ownReason branchReason reasonIn reasonOf explainCode explainAnswer mayChangeAll changedAll
 examples-hold =
     example-1-build by built refl refl refl refl
     also example-1-check by refl
@@ -1911,4 +1977,15 @@ examples-hold =
     also regions-refuse-mark by (refl, refl, refl)
     also regions-refuse-missing-mark by (refl, refl, refl)
     also regions-refuse-order by (refl, refl, refl)
+    also live-some by (refl, refl, refl)
+    also live-all by (refl, refl, refl)
+    also live-none by (refl, refl, refl)
+    also live-other-byte by (refl, refl, refl)
+    also live-below-n by (refl, refl, refl)
+    also range-of-the-dead by refl
+    also range-of-the-live by refl
+    also take-writes by refl
+    also change-freed-first by (refl, refl)
+    also change-no-room by (refl, refl)
+    also change-withdrawn-twice by (refl, refl)
     also nothing-left

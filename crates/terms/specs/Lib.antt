@@ -1,9 +1,12 @@
 pub mod Tests
+pub mod Live
 pub mod Lent
 pub mod Points
 pub mod Before
 pub mod Run
 pub mod Tree
+pub mod LivePoints
+pub mod Changes
 pub mod Box
 pub mod Region
 pub mod Visits
