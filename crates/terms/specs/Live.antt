@@ -10,9 +10,13 @@ use Rattle.terms.specs.Tests.{count, lowestTo, rising}
 abbrev pub isLiveByte : ℕ → Bool
 isLiveByte b = leb b 1
 
--- Number p is one of n and its live byte is 1.
+-- The byte is set: it is 1.
+abbrev pub isSet : ℕ → Bool
+isSet b = eqb b 1
+
+-- Number p is one of n and its live byte is set.
 abbrev pub isLive : ℕ → List ℕ → ℕ → Bool
-isLive n live p = ltb p n && eqb (getD live p 0) 1
+isLive n live p = ltb p n && isSet (getD live p 0)
 
 -- How many of the n numbers are live: v.
 abbrev pub liveCount : ℕ → List ℕ → ℕ

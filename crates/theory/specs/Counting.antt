@@ -10,6 +10,7 @@ use lib.ListN.{length, getD, take, drop, set, length-set, length-take, length-dr
 use lib.Seq.{take-suc, getD-take, getD-drop}
 use lib.Dec.{eqb}
 use borrow.Author.Tests.{eq-eqb}
+use Rattle.whole.specs.IndexedTotal.{totalTo, total-front}
 use Rattle.terms.specs.Tests.{bit, count, every, keep, pick}
 use Rattle.theory.specs.Flags.{and-true, true-and, and-yes, and-assoc}
 
@@ -50,6 +51,12 @@ pub count-map : {A B : Type 0} (test : B → Bool) (f : A → B) (xs : List A) �
 unfolding count
 count-map test f [] = refl
 count-map test f (x ∷ xs) = let ih = count-map test f xs in omega arith
+
+-- What counts is the total over the places.
+pub count-places : {A : Type 0} (test : A → Bool) (z : A) (xs : List A) → count test xs ≡ totalTo (length xs) (λ i. bit (test (getD xs i z)))
+unfolding count totalTo
+count-places test z [] = refl
+count-places test z (x ∷ xs) = omega (arith, count-places test z xs, total-front (length xs) (λ i. bit (test (getD (x ∷ xs) i z))))
 
 -- Every item counts with the test that always says yes, none with the one that always says no.
 pub count-yes : {A : Type 0} (xs : List A) → count (λ v. true) xs ≡ length xs
@@ -215,6 +222,12 @@ distinct-places xs i j d l h e = omega (
   d .once (getD xs i 0),
   count-two (eqb (getD xs i 0)) xs i j l h (eq-eqb (getD xs i 0) (getD xs i 0) refl) (eq-eqb (getD xs i 0) (getD xs j 0) e),
 )
+
+-- One item more.
+pub count-next : {A : Type 0} (test : A → Bool) (z : A) (xs : List A) (i : ℕ) → i < length xs
+    → count test (take (i + 1) xs) ≡ count test (take i xs) + bit (test (getD xs i z))
+unfolding count
+count-next test z xs i l = rw (add-one, take-suc xs i z l) (count-append test (take i xs) (getD xs i z ∷ []) ∙ omega arith)
 
 every-one : {A : Type 0} (test : A → Bool) (x : A) → every test (x ∷ []) ≡ test x
 unfolding every

@@ -1,6 +1,6 @@
 -- What "each number once" says, and three ways to see it: number by number, as the Same numbers as those that belong, and by length alone.
 -- Which numbers belong stays a variable test; only that they are below m is asked, and the shelf of all numbers below n stands at the end.
-use mathlib.Core.Path.{_≡_, refl, sym, ap, _∙_}
+use mathlib.Core.Path.{_≡_, refl, sym, ap, fun-ext, _∙_}
 use mathlib.Core.Bool.{Bool, true, false, _&&_}
 use mathlib.Core.List.{List}
 use Prim.Native.Nat.{ℕ, _≤_, _<_}
@@ -12,10 +12,10 @@ use Rattle.terms.specs.Tests.{bit, count, every, rising}
 use Rattle.terms.specs.Lent.{Stock}
 use Rattle.terms.specs.Points.{below, belongsTo, slotsOf}
 use Rattle.terms.specs.Tree.{members, eachOnce}
-use Rattle.theory.specs.Flags.{and-true, true-and}
+use Rattle.theory.specs.Flags.{same-test, and-true, true-and}
 use Rattle.theory.specs.Counting.{Same, Distinct, every-at, at-every, bit-le, same-every, same-length, same-sym, same-trans, same-distinct}
 use Rattle.theory.specs.SameByNumber.{same-by-number, same-by-length, every-counted, count-none}
-use Rattle.theory.specs.RisingNumbers.{length-rising, members-belong, members-below, count-members, members-shelf}
+use Rattle.theory.specs.RisingNumbers.{length-rising, members-belong, members-below, count-members, counted-all, members-shelf}
 
 -- Only numbers below m belong. Otherwise a run could hold a number from m on any number of times.
 abbrev pub BelongBelow : (ℕ → Bool) → ℕ → Type 0
@@ -103,6 +103,10 @@ module _ (belongs : ℕ → Bool) (m : ℕ) where
       go v true b = omega (arith, d .once v, member-once v (under v b) b)
       go v false b = omega (arith, count-none belongs run v all b)
 
+  -- Where as many belong as there are numbers below m, a number belongs exactly if it is below m.
+  pub full-below : BelongBelow belongs m → count belongs (rising 0 m) ≡ m → belongs ≡ below m
+  full-below under full = fun-ext (λ p. same-test (λ e. lt-ltb p m (under p e)) (λ e. counted-all belongs m full p (ltb-true p m e)))
+
 -- ---- the shelf of all numbers below n
 -- What belongs to a shelf of n is below n.
 pub below-under : (n : ℕ) → BelongBelow (below n) n
@@ -133,6 +137,10 @@ distinct-shelf n {run} size low d =
 pub stock-under : (s : Stock) → BelongBelow (belongsTo s) (s .n)
 stock-under s = below-under (s .n)
 
+-- As many numbers belong to it as its shelf has slots.
+pub stock-members : (s : Stock) → length (members (belongsTo s) (s .n)) ≡ slotsOf s
+stock-members s = ap length (members-shelf (s .n)) ∙ length-rising 0 (s .n)
+
 -- A run that holds each number of the stock once has as many slots as the stock's shelf.
 pub stock-slots : (s : Stock) (run : List ℕ) → eachOnce (belongsTo s) (s .n) run ≡ true → length run ≡ slotsOf s
-stock-slots s run e = shelf-length (s .n) run e
+stock-slots s run e = each-length (belongsTo s) (s .n) (stock-under s) run e ∙ stock-members s

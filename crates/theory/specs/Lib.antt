@@ -44,6 +44,9 @@ pub mod ClosedFaces
 pub mod MirroredFaces
 pub mod Margins
 pub mod LowestThatPasses
+pub mod LiveNumbers
+pub mod PointsInRange
+pub mod PointWritten
 pub mod RunSides
 pub mod BranchesOfARun
 pub mod Way

@@ -6,7 +6,7 @@ use Prim.Native.Nat.{ℕ, _*_, _≤_, _<_}
 use lib.ListN.{length, getD}
 use lib.IntN.{ℤ, pos, negsuc}
 use lib.Dec.{leb, eqb}
-use borrow.Author.Tests.{leb-true, ltb-true, ltb-false, le-ltb, eqb-true, eq-eqb}
+use borrow.Author.Tests.{leb-true, ltb-false, le-ltb, eqb-true, eq-eqb}
 use Rattle.terms.specs.Tests.{every}
 use Rattle.terms.specs.Lent.{Stock, Order, Faces}
 use Rattle.terms.specs.Points.{isCoordinate, belongsTo}
@@ -34,6 +34,7 @@ use Rattle.terms.specs.Refusals.{
 use Rattle.theory.specs.Flags.{not-false, false-not, and-true}
 use Rattle.theory.specs.Counting.{every-at}
 use Rattle.theory.specs.Tested.{TestedPoints, TestedFaces, Between, within-each, coordinate-place}
+use Rattle.theory.specs.EachNumberOnce.{stock-under}
 use Rattle.theory.specs.FirstRefusal.{Passed, passed-parts, passed-next, passed-none}
 
 pub dimension-passed : (k : ℕ) → Passed (dimensionRefusals k) → (1 ≤ k) × (k ≤ 4)
@@ -62,7 +63,7 @@ stock-tested s dimension many size w = record {
   few = dimension .1;
   many = many;
   size = size;
-  each = λ p e. record { ranges = λ i l. coordinates-passed (s .points) w _ (coordinate-place (s .k) (s .n) (s .points) size (ltb-true p (s .n) e) l) };
+  each = λ p e. record { ranges = λ i l. coordinates-passed (s .points) w _ (coordinate-place (s .k) (s .n) (s .points) size (stock-under s p e) l) };
 }
 
 -- The stock's shape: 1, 2 and 3 were tested.

@@ -1,6 +1,6 @@
 -- The rising numbers a, a + 1 and so on, and those of 0 to m - 1 that belong: their places and their counts.
 use mathlib.Core.Path.{_≡_, refl, sym, ap, _∙_}
-use mathlib.Core.Bool.{Bool, true, false, _&&_}
+use mathlib.Core.Bool.{Bool, true, false, _&&_, not}
 use mathlib.Core.List.{List, [], _∷_, _++_}
 use Prim.Native.Nat.{ℕ, zero, suc, _+_, _-_, _≤_, _<_}
 use native.Mathlib.Nat.{not-suc-le-zero, le-of-suc-le-suc, add-zero}
@@ -13,8 +13,8 @@ use Rattle.terms.specs.Tests.{bit, count, every, keep, pick, rising}
 use Rattle.terms.specs.Points.{below}
 use Rattle.terms.specs.Tree.{members}
 use Rattle.theory.specs.Flags.{true-and, and-no}
-use Rattle.theory.specs.Counting.{count-keep, count-same, count-no}
-use Rattle.theory.specs.Keeping.{keep-append, keep-every, every-keep, every-kept}
+use Rattle.theory.specs.Counting.{count-keep, count-same, count-no, count-not, count-every, every-count, every-at}
+use Rattle.theory.specs.Keeping.{keep-append, keep-every, length-keep, every-keep, every-kept}
 
 pub length-rising : (a c : ℕ) → length (rising a c) ≡ c
 unfolding rising
@@ -102,6 +102,21 @@ count-members belongs m v =
     go : (t : Bool) → count (λ p. t && eqb v p) (rising 0 m) ≡ bit (t && ltb v m)
     go true = count-below v m
     go false = count-no (rising 0 m)
+
+-- They are as many as belong.
+pub length-members : (belongs : ℕ → Bool) (m : ℕ) → length (members belongs m) ≡ count belongs (rising 0 m)
+length-members belongs m = length-keep belongs (rising 0 m)
+
+-- Where all numbers below m belong, m do; and where m do, all of them belong.
+pub all-counted : (belongs : ℕ → Bool) (m : ℕ) → ((p : ℕ) → p < m → belongs p ≡ true) → count belongs (rising 0 m) ≡ m
+all-counted belongs m each =
+    omega (arith, count-not belongs (rising 0 m), length-rising 0 m, every-count belongs (rising 0 m) (every-rising belongs 0 m (λ p l r. each p (omega arith))))
+
+pub counted-all : (belongs : ℕ → Bool) (m : ℕ) → count belongs (rising 0 m) ≡ m → (p : ℕ) → p < m → belongs p ≡ true
+counted-all belongs m full p l =
+    let none : count (λ q. not (belongs q)) (rising 0 m) ≡ 0 = omega (arith, count-not belongs (rising 0 m), length-rising 0 m) in
+    let here : getD (rising 0 m) p 0 ≡ p = omega (arith, rising-at 0 m p 0 l) in
+    rw here at (every-at belongs 0 (rising 0 m) (count-every belongs (rising 0 m) none) p (omega (arith, length-rising 0 m)))
 
 -- Of the numbers below n all belong to a shelf of n.
 pub members-shelf : (n : ℕ) → members (below n) n ≡ rising 0 n

@@ -21,8 +21,7 @@ use Rattle.theory.specs.Counting.{Distinct, at-every, bit-le}
 use Rattle.theory.specs.RunParts.{Parts, parts, count-run}
 use Rattle.theory.specs.BeforeIsAnOrder.{before-asym, before-self}
 use Rattle.theory.specs.SameByNumber.{count-none}
-use Rattle.theory.specs.RisingNumbers.{length-rising, members-shelf}
-use Rattle.theory.specs.EachNumberOnce.{BelongBelow, each-once, distinct-each, stock-under}
+use Rattle.theory.specs.EachNumberOnce.{BelongBelow, each-once, distinct-each, stock-under, stock-members}
 
 module _ {f k : ℕ} {at : ℕ → ℕ → ℤ} {j x : ℕ} {xs : List ℕ} (w : Parts f k at j (x ∷ xs)) (v : ℕ) where
   abbrev n : ℕ
@@ -83,5 +82,4 @@ pub shelf-test : (s : Stock) (o : Order) → slotsOf s ≤ length (o .slots)
     → isShelf s o ≡ every (belongsTo s) (shelfRun s o) && treeRun (slotsOf s) (s .k) (pointOf s) 0 (shelfRun s o)
 shelf-test s o room =
     let size : length (shelfRun s o) ≡ slotsOf s = length-take-le (slotsOf s) (o .slots) room in
-    let many : length (members (belongsTo s) (s .n)) ≡ slotsOf s = ap length (members-shelf (s .n)) ∙ length-rising 0 (s .n) in
-    tree-test (s .k) (pointOf s) (belongsTo s) (s .n) (shelfRun s o) (stock-under s) (size ∙ sym many) ∙ rw size
+    tree-test (s .k) (pointOf s) (belongsTo s) (s .n) (shelfRun s o) (stock-under s) (size ∙ sym (stock-members s)) ∙ rw size
