@@ -4,3 +4,4 @@ pub mod build;
 pub mod check;
 pub mod choose;
 pub mod key;
+pub mod live;

@@ -1,7 +1,7 @@
 -- The rising numbers a, a + 1 and so on, and those of 0 to m - 1 that belong: their places and their counts.
 use mathlib.Core.Path.{_≡_, refl, sym, ap, _∙_}
 use mathlib.Core.Bool.{Bool, true, false, _&&_, not}
-use mathlib.Core.List.{List, [], _∷_, _++_}
+use mathlib.Core.List.{List, [], _∷_, _++_, append-nil}
 use Prim.Native.Nat.{ℕ, zero, suc, _+_, _-_, _≤_, _<_}
 use native.Mathlib.Nat.{not-suc-le-zero, le-of-suc-le-suc, add-zero}
 use native.Mathlib.Omega.{arith}
@@ -103,9 +103,12 @@ count-members belongs m v =
     go true = count-below v m
     go false = count-no (rising 0 m)
 
--- They are as many as belong.
+-- They are as many as belong, and m at most.
 pub length-members : (belongs : ℕ → Bool) (m : ℕ) → length (members belongs m) ≡ count belongs (rising 0 m)
 length-members belongs m = length-keep belongs (rising 0 m)
+
+pub members-few : (belongs : ℕ → Bool) (m : ℕ) → length (members belongs m) ≤ m
+members-few belongs m = omega (arith, length-members belongs m, count-not belongs (rising 0 m), length-rising 0 m)
 
 -- Where all numbers below m belong, m do; and where m do, all of them belong.
 pub all-counted : (belongs : ℕ → Bool) (m : ℕ) → ((p : ℕ) → p < m → belongs p ≡ true) → count belongs (rising 0 m) ≡ m
@@ -129,9 +132,22 @@ members-next belongs n =
     let e : 0 + n ≡ n = omega arith in
     rw e at (ap (keep belongs) (rising-append 0 n 1) ∙ keep-append belongs (rising 0 n) (rising (0 + n) 1))
 
--- Of fewer numbers no more belong.
+-- Of fewer numbers no more belong, and where as many do, they are the same.
+members-more : (belongs : ℕ → Bool) {n m : ℕ} → n ≤ m → members belongs m ≡ members belongs n ++ keep belongs (rising (0 + n) (m - n))
+members-more belongs {n} {m} l =
+    let e : n + (m - n) ≡ m = omega arith in
+    rw e at (ap (keep belongs) (rising-append 0 n (m - n)) ∙ keep-append belongs (rising 0 n) (rising (0 + n) (m - n)))
+
 pub members-fewer : (belongs : ℕ → Bool) {n m : ℕ} → n ≤ m → length (members belongs n) ≤ length (members belongs m)
 members-fewer belongs {n} {m} l =
-    let e : n + (m - n) ≡ m = omega arith in
-    let all = rw e at (ap (keep belongs) (rising-append 0 n (m - n)) ∙ keep-append belongs (rising 0 n) (rising (0 + n) (m - n))) in
-    omega (arith, ap length all, length-append (members belongs n) (keep belongs (rising (0 + n) (m - n))))
+    omega (arith, ap length (members-more belongs l), length-append (members belongs n) (keep belongs (rising (0 + n) (m - n))))
+
+pub members-all : (belongs : ℕ → Bool) {n m : ℕ} → n ≤ m → length (members belongs m) ≤ length (members belongs n) → members belongs n ≡ members belongs m
+members-all belongs {n} {m} l few =
+    let rest : List ℕ = keep belongs (rising (0 + n) (m - n)) in
+    let none : rest ≡ [] = length-none rest (omega (arith, ap length (members-more belongs l), length-append (members belongs n) rest)) in
+    sym (members-more belongs l ∙ rw none (append-nil (members belongs n)))
+  where
+    length-none : (xs : List ℕ) → length xs ≡ 0 → xs ≡ []
+    length-none [] e = refl
+    length-none (x ∷ xs) e = absurd (omega arith)
