@@ -5,6 +5,7 @@ pub mod Standing
 pub mod Boxed
 pub mod Faced
 pub mod Runs
+pub mod SlotsBox
 pub mod RootBox
 pub mod Root
 pub mod SettledSlots

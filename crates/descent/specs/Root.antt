@@ -6,15 +6,15 @@ use mathlib.Core.List.{List, [], _∷_}
 use Prim.Native.Nat.{ℕ, _<_}
 use native.Mathlib.Nat.{not-suc-le-zero}
 use native.Mathlib.Omega.{arith}
-use lib.ListN.{length, getD}
+use lib.ListN.{length}
 use lib.Seq.{take-length}
 use lib.IntN.{ℤ, pos, negsuc}
 use Rattle.terms.specs.Lent.{Stock}
 use Rattle.terms.specs.Points.{coord, pointOf, belongsTo}
-use Rattle.terms.specs.Tree.{isTree, eachOnce}
+use Rattle.terms.specs.Tree.{members, isTree, eachOnce}
 use Rattle.terms.specs.Box.{Box, rootBox}
 use Rattle.theory.specs.Flags.{and-true}
-use Rattle.theory.specs.Counting.{same-length}
+use Rattle.theory.specs.Counting.{Same, same-length}
 use Rattle.theory.specs.EachNumberOnce.{each-once, each-members, stock-under}
 use Rattle.theory.specs.Boxes.{Held, Alike, alike-sym, alike-trans}
 use Rattle.theory.specs.RootBoxOfSame.{root-of-same, root-between}
@@ -24,6 +24,7 @@ use Rattle.region.specs.Ranges.{BoxRanges}
 use Rattle.descent.specs.Points.{has-point}
 use Rattle.descent.specs.Standing.{Known, Standing}
 use Rattle.descent.specs.Boxed.{Boxed}
+use Rattle.descent.specs.SlotsBox.{SlotsBoxed}
 use Rattle.descent.specs.RootBox.{RootBoxed}
 
 -- Points in range have their root box in range.
@@ -39,24 +40,42 @@ pub record Rooted (k : ℕ) (points : List ℤ) (order : List ℕ) (b : Box) : T
   pub standing : Standing k points order 0 (length order) 0
   pub alike : 0 < length order → Alike k b (rootBox (coord k points) order)
 
+module _ (s : Stock) (order : List ℕ) (t : isTree (s .k) (pointOf s) (belongsTo s) (s .n) order ≡ true) where
+  once : eachOnce (belongsTo s) (s .n) order ≡ true
+  unfolding isTree
+  once = and-true (eachOnce (belongsTo s) (s .n) order) t .0
+
+  -- The slots hold the numbers that belong.
+  held : Same order (members (belongsTo s) (s .n))
+  held = each-members (belongsTo s) (s .n) (stock-under s) once
+
+  -- Every slot of a shelf holds the number of a point.
+  pub shelf-known : TestedPoints s → Known (s .k) (s .points) order
+  shelf-known tested = record { each = λ i l. has-point tested (each-once (belongsTo s) (s .n) once .belong i l) }
+
+  -- The root box of the slots is that of the numbers that belong.
+  pub slots-root-boxed : {b : Box} → SlotsBoxed (s .k) (s .points) order b → RootBoxed s b
+  slots-root-boxed box = record {
+    alike = λ l.
+        let some : 0 < length order = omega (arith, same-length held) in
+        alike-trans (box .alike some) (root-of-same (s .k) (pointOf s) held some);
+  }
+
 -- The shelf of a stock has its root, whose box is that of the numbers that belong.
 pub shelf-rooted : {s : Stock} {order : List ℕ} {b : Box} → TestedPoints s → isTree (s .k) (pointOf s) (belongsTo s) (s .n) order ≡ true → RootBoxed s b
     → Rooted (s .k) (s .points) order b
 unfolding isTree
 shelf-rooted {s} {order} tested t box =
     let p = and-true (eachOnce (belongsTo s) (s .n) order) t in
-    let under = stock-under s in
-    let once = each-once (belongsTo s) (s .n) (p .0) in
-    let held = each-members (belongsTo s) (s .n) under (p .0) in
     record {
       standing = record {
         fits = omega arith;
         splits = tested .some;
-        known = record { each = λ i l. has-point tested (once .belong i l) };
+        known = shelf-known s order t tested;
         fuel = length order;
         tree = rw (take-length order) (p .1);
       };
-      alike = λ l. alike-trans (box .alike (omega (arith, same-length held))) (alike-sym (root-of-same (s .k) (pointOf s) held l));
+      alike = λ l. alike-trans (box .alike (omega (arith, same-length (held s order t)))) (alike-sym (root-of-same (s .k) (pointOf s) (held s order t) l));
     }
 
 -- The root's box holds all its points, and is in range.

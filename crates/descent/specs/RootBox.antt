@@ -20,12 +20,12 @@ use Rattle.terms.specs.Points.{coord, lone, pointOf, belongsTo}
 use Rattle.terms.specs.Tree.{members}
 use Rattle.terms.specs.Box.{Box, rootBox}
 use Rattle.theory.specs.Stores.{stored}
-use Rattle.theory.specs.Tested.{Between, TestedPoints}
+use Rattle.theory.specs.Tested.{TestedPoints, coordinate-place}
 use Rattle.theory.specs.RisingNumbers.{length-rising, rising-at, members-shelf}
-use Rattle.theory.specs.Boxes.{In, Alike}
-use Rattle.theory.specs.BoxLaws.{held-root}
-use Rattle.theory.specs.RootBoxOfSame.{root-between}
+use Rattle.theory.specs.Boxes.{Alike}
 use Rattle.descent.specs.Points.{has-point}
+use Rattle.descent.specs.Standing.{Known}
+use Rattle.descent.specs.SlotsBox.{Foremost, foremost-low, foremost-high}
 
 -- Where a number belongs to the stock, the box is the root box of those that do.
 pub record RootBoxed (s : Stock) (b : Box) : Type 0 where
@@ -112,51 +112,40 @@ lane-dimension {k} t u = go k (t .some) (t .few)
     go (suc (suc (suc (suc (suc k))))) some few = absurd (omega arith)
 
 module _ {k m : ℕ} {points : List ℤ} (some : 0 < m) (t : TestedPoints (stock k m points)) where
-  -- What comes before each coordinate of dimension d, and after all that do, stands in its place once all coordinates are dealt to k places.
-  row-root : {le : ℤ → ℤ → Type 0} {pick : ℤ → ℤ → ℤ} {start bound : ℤ} {row : List ℤ} (d : ℕ) → d < k → Choice le pick → Row le k (lone points) start (length points) row
-      → le bound start → ((p : ℕ) → p < m → le bound (coord k points p d)) → (((p : ℕ) → p < m → le (lone row d) (coord k points p d)) → le (lone row d) bound)
-      → lone row d ≡ bound
-  row-root {le} {bound = bound} {row} d l c r from each to = c .antisym (to before) (r .after bound d l from after)
+  -- Place p of the numbers has number p.
+  number : (p : ℕ) → p < length (rising 0 m) → getD (rising 0 m) p 0 ≡ p
+  number p n = omega (arith, rising-at 0 m p 0 (omega (arith, length-rising 0 m)))
+
+  -- Once all coordinates are dealt to k places, what stands in place d comes first of the coordinates of dimension d.
+  row-foremost : {le : ℤ → ℤ → Type 0} {start : ℤ} {row : List ℤ} {d : ℕ} → d < k → Row le k (lone points) start (length points) row
+      → Foremost le (λ j. coord k points (getD (rising 0 m) j 0) d) start (length (rising 0 m)) (lone row d)
+  row-foremost {le} {start} {row} {d} l r = record { before = before; after = λ z s all. r .after z d l s (after z all) }
     where
-      before : (p : ℕ) → p < m → le (lone row d) (coord k points p d)
+      before : (p : ℕ) → p < length (rising 0 m) → le (lone row d) (coord k points (getD (rising 0 m) p 0) d)
       before p n =
           let place : (p * k + d) % k ≡ d = mul-add-mod-self-right p k d ∙ mod-eq-of-lt l in
-          rw place at (r .before (p * k + d) (omega (arith, has-point t (lt-ltb p m n) .room)))
+          let few : p < m = omega (arith, length-rising 0 m) in
+          rw (number p n) (rw place at (r .before (p * k + d) (coordinate-place k m points (t .size) few l)))
 
-      after : (u : ℕ) → u < length points → u % k ≡ d → le bound (lone points u)
-      after u n e =
+      after : (z : ℤ) → ((p : ℕ) → p < length (rising 0 m) → le z (coord k points (getD (rising 0 m) p 0) d)) → (u : ℕ) → u < length points → u % k ≡ d → le z (lone points u)
+      after z all u n e =
           let few : u / k < m = div-lt-iff-lt-mul {k = k} {x = u} {y = m} (omega arith) .1 (omega (arith, t .size)) in
+          let inside : u / k < length (rising 0 m) = omega (arith, length-rising 0 m) in
           let place : u / k * k + d ≡ u = rw e at (div-add-mod' u k) in
-          rw place at (each (u / k) few)
+          rw place at (rw (number (u / k) inside) at (all (u / k) inside))
 
-  -- Place p of the numbers has number p.
-  number : (p : ℕ) → p < m → getD (rising 0 m) p 0 ≡ p
-  number p n = omega (arith, rising-at 0 m p 0 n)
-
-  -- Each number's point lies in the root box.
-  numbers-held : (p : ℕ) → p < m → In k (rootBox (coord k points) (rising 0 m)) (coord k points p)
-  numbers-held p n = rw (number p n) at (held-root k (coord k points) (rising 0 m) .each p (omega (arith, length-rising 0 m)))
-
-  -- The numbers' coordinates between two numbers have the root box between them.
-  numbers-between : (d : ℕ) {a b : ℤ} → ((p : ℕ) → p < m → Between a (coord k points p d) b)
-      → Between a (rootBox (coord k points) (rising 0 m) .low d) b × Between a (rootBox (coord k points) (rising 0 m) .high d) b
-  numbers-between d {a} {b} each = root-between (coord k points) d (rising 0 m) (omega (arith, length-rising 0 m)) at
-    where
-      at : (i : ℕ) → i < length (rising 0 m) → Between a (coord k points (getD (rising 0 m) i 0) d) b
-      at i n = let h : i < m = omega (arith, length-rising 0 m) in rw (number i h) (each i h)
+  numbers-known : Known k points (rising 0 m)
+  numbers-known = record { each = λ p n. rw (number p n) (has-point t (lt-ltb p m (omega (arith, length-rising 0 m)))) }
 
   -- All coordinates dealt to k places are the root box.
   pub dealt-root : {low high : List ℤ} → Dealt k (lone points) (lone points) (length points) low high
       → Alike k (record { low = lone low; high = lone high }) (rootBox (coord k points) (rising 0 m))
-  dealt-root {low} {high} r = record {
-    lows = λ d l. row-root d l least-choice (r .lows) (numbers-between d (range d l) .0 .to-greatest) (λ p n. numbers-held p n .least d l)
-        (λ each. numbers-between d (λ p n. record { from-least = each p n; to-greatest = range d l p n .to-greatest }) .0 .from-least);
-    highs = λ d l. row-root d l greatest-choice (r .highs) (numbers-between d (range d l) .1 .from-least) (λ p n. numbers-held p n .most d l)
-        (λ each. numbers-between d (λ p n. record { from-least = range d l p n .from-least; to-greatest = each p n }) .1 .to-greatest);
-  }
-    where
-      range : (d : ℕ) → d < k → (p : ℕ) → p < m → Between (negsuc 32767) (coord k points p d) (pos 32767)
-      range d l p n = has-point t (lt-ltb p m n) .ranges .ranges d l
+  dealt-root r =
+      let slot : 0 < length (rising 0 m) = omega (arith, length-rising 0 m) in
+      record {
+        lows = λ d l. foremost-low numbers-known slot l (row-foremost l (r .lows));
+        highs = λ d l. foremost-high numbers-known slot l (row-foremost l (r .highs));
+      }
 
 -- All numbers below m belong.
 pub dealt-all : {k m : ℕ} {points low high : List ℤ} → TestedPoints (stock k m points) → Dealt k (lone points) (lone points) (length points) low high

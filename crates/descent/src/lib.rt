@@ -3,3 +3,4 @@
 pub mod points;
 pub mod root;
 pub mod runs;
+pub mod slots_box;

@@ -20,7 +20,7 @@ struct Lanes {
 }
 
 // The first of two coordinates if the answer is yes, else the second.
-fn choose(answer: bool, x: i32, y: i32) -> i32
+pub fn choose(answer: bool, x: i32, y: i32) -> i32
     ensures { λ r. ⌜ r ≡ cond answer x y ⌝ }
 {
     if answer { x } else { y }
