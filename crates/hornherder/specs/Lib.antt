@@ -1,4 +1,5 @@
 pub mod Ranges
+pub mod Live
 pub mod First
 pub mod BuildOutcome
 pub mod BuildPromises

@@ -6,6 +6,7 @@ pub mod check;
 pub mod explain;
 pub mod list;
 pub mod list_regions;
+mod live;
 pub mod place;
 pub mod point;
 mod ranges;

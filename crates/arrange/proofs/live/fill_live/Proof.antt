@@ -1,9 +1,8 @@
 -- The invariant is what is written so far: the live numbers below p. A dead number stands behind them and is written over.
-use mathlib.Core.Path.{_≡_, sym, _∙_}
+use mathlib.Core.Path.{sym, _∙_}
 use mathlib.Core.Logic.{⊎-elim}
 use Prim.Native.Nat.{_-_, _<_}
 use native.Mathlib.Omega.{arith}
-use lib.ListN.{length}
 use borrow.Author.Tests.{eq-eqb, ne-eqb}
 use Rattle.terms.specs.Live.{isLive}
 use Rattle.theory.specs.RisingNumbers.{length-members, members-few}

@@ -1,7 +1,7 @@
 -- A number from n on is not live; of any other its byte tells.
 use mathlib.Core.Path.{sym}
 use borrow.Author.Needs.{needs}
-use borrow.Author.Tests.{le-ltb, lt-ltb}
+use borrow.Author.Tests.{le-ltb}
 use Rattle.theory.specs.LiveNumbers.{live-byte}
 use Rattle.arrange.proofs.live.is_live.Statement.{statement}
 use Rattle.arrange.proofs.live.is_live.Tie as tie
