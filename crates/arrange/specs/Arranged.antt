@@ -11,19 +11,20 @@ use lib.ListN.{length, getD, take, drop, length-append, length-take, length-drop
 use lib.Seq.{drop-cons, split-at, take-at, getD-at, take-append-add, drop-append-add, getD-take, getD-drop, take-all, length-take-le}
 use lib.IntN.{ℤ}
 use Rattle.terms.specs.Tests.{every}
-use Rattle.terms.specs.Lent.{stock}
-use Rattle.terms.specs.Points.{below}
+use Rattle.terms.specs.Lent.{Stock}
+use Rattle.terms.specs.Points.{belongsTo}
 use Rattle.terms.specs.Before.{before}
 use Rattle.terms.specs.Run.{middle, axis, node, lefts, rights}
 use Rattle.terms.specs.Tree.{treeRun, members, isTree}
 use Rattle.theory.specs.Counting.{Same, same-refl, same-trans, same-front, same-part, same-length, same-every, Distinct, same-distinct, distinct-append, every-at, at-every}
 use Rattle.theory.specs.Flags.{true-and}
 use Rattle.theory.specs.Tested.{TestedPoints}
-use Rattle.theory.specs.RisingNumbers.{members-below}
-use Rattle.theory.specs.EachNumberOnce.{members-each, each-distinct, below-under, shelf-length}
+use Rattle.theory.specs.RisingNumbers.{members-belong, members-few}
+use Rattle.theory.specs.EachNumberOnce.{members-each, each-distinct, stock-under}
 use Rattle.theory.specs.RunParts.{Parts, of-parts}
 use Rattle.theory.specs.TreeFuel.{tree-fuel}
 use Rattle.theory.specs.TreeDepth.{tree-depth, next-depth}
+use Rattle.arrange.specs.Key.{stock-keyed}
 use Rattle.arrange.specs.Placed.{KeyedRun, Placed}
 
 -- What arranging asks of a run: its numbers have keys on dimension s, and none stands twice.
@@ -167,14 +168,14 @@ module _ {k : ℕ} {points : List ℤ} {s : ℕ} {xs : List ℕ} (w : Arrangeabl
       let q = w .keyed in
       let z = same-length c in
       record {
-        keyed = record { m = q .m; tested = q .tested; dimension = q .dimension; numbers = same-every (below (q .m)) c (q .numbers) };
+        keyed = record { belongs = q .belongs; has-key = q .has-key; dimension = q .dimension; numbers = same-every (q .belongs) c (q .numbers) };
         distinct = same-distinct c (w .distinct);
         few = omega (arith, w .few);
       }
 
-  part : (n : ℕ) (ys : List ℕ) → n < k → length ys ≤ length xs → Distinct ys → every (below (w .keyed .m)) ys ≡ true → Arrangeable k points n ys
+  part : (n : ℕ) (ys : List ℕ) → n < k → length ys ≤ length xs → Distinct ys → every (w .keyed .belongs) ys ≡ true → Arrangeable k points n ys
   part n ys h l d e =
-      record { keyed = record { m = w .keyed .m; tested = w .keyed .tested; dimension = h; numbers = e }; distinct = d; few = omega (arith, w .few) }
+      record { keyed = record { belongs = w .keyed .belongs; has-key = w .keyed .has-key; dimension = h; numbers = e }; distinct = d; few = omega (arith, w .few) }
 
   split-distinct : (c : ℕ) → Distinct (take c xs) × Distinct (drop c xs)
   split-distinct c = distinct-append (take c xs) (drop c xs) (rw take-append-drop (w .distinct))
@@ -182,7 +183,7 @@ module _ {k : ℕ} {points : List ℤ} {s : ℕ} {xs : List ℕ} (w : Arrangeabl
   pub arrangeable-front : (n c : ℕ) → n < k → Arrangeable k points n (take c xs)
   arrangeable-front n c h =
       let z = length-take c xs in
-      let test = below (w .keyed .m) in
+      let test = w .keyed .belongs in
       part n (take c xs) h (omega arith) (split-distinct c .0) (at-every test 0 (take c xs) (λ i l.
       let u : i < c = omega arith in
       rw getD-take (every-at test 0 xs (w .keyed .numbers) i (omega arith))))
@@ -190,18 +191,20 @@ module _ {k : ℕ} {points : List ℤ} {s : ℕ} {xs : List ℕ} (w : Arrangeabl
   pub arrangeable-back : (n c : ℕ) → n < k → Arrangeable k points n (drop c xs)
   arrangeable-back n c h =
       let z = length-drop c xs in
-      let test = below (w .keyed .m) in
+      let test = w .keyed .belongs in
       part n (drop c xs) h (omega arith) (split-distinct c .1) (at-every test 0 (drop c xs) (λ i l.
       rw getD-drop (every-at test 0 xs (w .keyed .numbers) (c + i) (omega arith))))
 
 -- ---- the whole shelf
-pub members-arrangeable : {k m : ℕ} {points : List ℤ} → TestedPoints (stock k m points) → Arrangeable k points 0 (members (below m) m)
-members-arrangeable {m = m} tested =
-    let each = members-each (below m) m same-refl in
+-- The numbers of a tested stock.
+pub stock-arrangeable : (s : Stock) → TestedPoints s → Arrangeable (s .k) (s .points) 0 (members (belongsTo s) (s .n))
+stock-arrangeable s tested =
+    let belongs = belongsTo s in
+    let m = s .n in
     record {
-      keyed = record { m = m; tested = tested; dimension = tested .some; numbers = members-below (below m) m };
-      distinct = each-distinct (below m) m (below-under m) each;
-      few = omega (arith, tested .many, shelf-length m (members (below m) m) each);
+      keyed = record { belongs = belongs; has-key = stock-keyed tested; dimension = tested .some; numbers = members-belong belongs m };
+      distinct = each-distinct belongs m (stock-under s) (members-each belongs m same-refl);
+      few = omega (arith, tested .many, members-few belongs m);
     }
 
 pub arranged-tree : {k : ℕ} {at : ℕ → ℕ → ℤ} (belongs : ℕ → Bool) (m : ℕ) {run : List ℕ} → Arranged k at 0 (members belongs m) run

@@ -18,7 +18,7 @@ use Rattle.theory.specs.Tested.{TestedPoints}
 use Rattle.theory.specs.RisingNumbers.{length-rising, members-shelf}
 use Rattle.theory.specs.EachNumberOnce.{below-under}
 use Rattle.theory.specs.TreeIsDistinct.{tree-test}
-use Rattle.arrange.specs.Key.{keyOf, Keyed, key-below, key-small, key-number, before-key}
+use Rattle.arrange.specs.Key.{keyOf, Keyed, stock-keyed, key-small, key-number, before-key}
 use Rattle.arrange.specs.Allowed.{isAllowed, allThree, each-of-three, allowed, of-allowed, Ordered}
 use Rattle.arrange.specs.Descent.{isBranch, two-slots, three-slots}
 
@@ -44,7 +44,7 @@ pub record Descends (k m : ℕ) (points : List ℤ) (s : ℕ) (least end : List 
 module _ {k m : ℕ} {points : List ℤ} (tested : TestedPoints (stock k m points)) where
   -- A number that belongs has a key on each dimension.
   pub keyed : (d p : ℕ) → d < k → below m p ≡ true → Keyed k points d p
-  keyed d p l e = record { m = m; tested = tested; dimension = l; belongs = e }
+  keyed d p l e = stock-keyed tested d p l e
 
   pub ordered : Ordered k (coord k points) (below m) (keyOf k points)
   ordered d p q l a b = before-key (keyed d p l a) (keyed d q l b)
@@ -53,7 +53,7 @@ module _ {k m : ℕ} {points : List ℤ} (tested : TestedPoints (stock k m point
   pub key-below-last : (d p : ℕ) → d < k → below m p ≡ true → keyOf k points d p < 4294967295
   key-below-last d p l e =
       let w = keyed d p l e in
-      omega (arith, key-small w, key-number w, key-below w)
+      omega (arith, key-small w, key-number w, w .small)
 
   root-allowed : (p : ℕ) → numberAllowed k m points (replicate 4 0) (replicate 4 4294967295) p ≡ below m p
   root-allowed p = same-test

@@ -15,7 +15,7 @@ use mir.Val.{SFits, toZ, ofZ}
 use mir.Facts.{toZ-ofZ}
 use Rattle.whole.specs.Parts.{up, dn, ints, flags, sum-parts, abs-parts}
 use Rattle.whole.specs.Fits.{sfits-abs}
-use Rattle.terms.specs.Lent.{stock}
+use Rattle.terms.specs.Lent.{Stock}
 use Rattle.terms.specs.Points.{coord, belongsTo}
 use Rattle.terms.specs.Before.{before}
 use Rattle.theory.specs.Flags.{same-test}
@@ -30,23 +30,19 @@ lifted z = natAbs (z +ℤ pos 32768)
 unfoldable pub keyOf : ℕ → List ℤ → ℕ → ℕ → ℕ
 keyOf k points s p = lifted (coord k points p s) * 65536 + p
 
--- Number p has a key on dimension s: it belongs to a stock of m numbers that was tested.
+-- Number p has a key on dimension s: it is small enough, and its coordinate is lent and in range.
 pub record Keyed (k : ℕ) (points : List ℤ) (s p : ℕ) : Type 0 where
-  pub m : ℕ
-  pub tested : TestedPoints (stock k m points)
-  pub dimension : s < k
-  pub belongs : belongsTo (stock k m points) p ≡ true
+  pub small : p < 65535
+  pub place : p * k + s < length points
+  pub range : Between (negsuc 32767) (coord k points p s) (pos 32767)
 
--- Its number is below 65,535.
-pub key-below : {k s p : ℕ} {points : List ℤ} → Keyed k points s p → p < 65535
-key-below {k} {p = p} {points} w = omega (arith, stock-under (stock k (w .m) points) p (w .belongs), w .tested .many)
-
--- Where the coordinate lies.
-pub key-place : {k s p : ℕ} {points : List ℤ} → Keyed k points s p → p * k + s < length points
-key-place {k} {points = points} w = coordinate-place k (w .m) points (w .tested .size) (stock-under (stock k (w .m) points) _ (w .belongs)) (w .dimension)
-
-pub coordinate-range : {k s p : ℕ} {points : List ℤ} → Keyed k points s p → Between (negsuc 32767) (coord k points p s) (pos 32767)
-coordinate-range {s = s} {p} w = w .tested .each p (w .belongs) .ranges s (w .dimension)
+-- A number that belongs to a tested stock has a key on each dimension.
+pub stock-keyed : {s : Stock} → TestedPoints s → (d p : ℕ) → d < s .k → belongsTo s p ≡ true → Keyed (s .k) (s .points) d p
+stock-keyed {s} tested d p l e = record {
+  small = omega (arith, stock-under s p e, tested .many);
+  place = coordinate-place (s .k) (s .n) (s .points) (tested .size) (stock-under s p e) l;
+  range = tested .each p e .ranges d l;
+}
 
 -- What is lifted is the coordinate and 32,768 more.
 pub lifted-parts : (z : ℤ) → Between (negsuc 32767) z (pos 32767) → lifted z + dn z ≡ up z + 32768
@@ -58,11 +54,11 @@ lifted-small z b = omega (ints, lifted-parts z b)
 -- The key fits 32 bits, and its remainder is the number.
 pub key-small : {k s p : ℕ} {points : List ℤ} → Keyed k points s p → keyOf k points s p < 2 ^ 32
 unfolding keyOf
-key-small {k} {s} {p} {points} w = omega (arith, key-below w, lifted-small (coord k points p s) (coordinate-range w))
+key-small {k} {s} {p} {points} w = omega (arith, w .small, lifted-small (coord k points p s) (w .range))
 
 pub key-number : {k s p : ℕ} {points : List ℤ} → Keyed k points s p → keyOf k points s p % 65536 ≡ p
 unfolding keyOf
-key-number w = omega (arith, key-below w)
+key-number w = omega (arith, w .small)
 
 -- Lifted coordinates and numbers below 65,536 compare as coordinates and numbers do.
 order : (x y : ℤ) (p q : ℕ) → Between (negsuc 32767) x (pos 32767) → Between (negsuc 32767) y (pos 32767) → p < 65536 → q < 65536
@@ -83,7 +79,7 @@ pub before-key : {k s p q : ℕ} {points : List ℤ} → Keyed k points s p → 
     → before (coord k points) s p q ≡ ltb (keyOf k points s p) (keyOf k points s q)
 unfolding before keyOf
 before-key {k} {s} {p} {q} {points} v w =
-    order (coord k points p s) (coord k points q s) p q (coordinate-range v) (coordinate-range w) (omega (arith, key-below v)) (omega (arith, key-below w))
+    order (coord k points p s) (coord k points q s) p q (v .range) (w .range) (omega (arith, v .small)) (omega (arith, w .small))
 
 -- Two numbers with one key are one.
 pub key-apart : {k s p q : ℕ} {points : List ℤ} → Keyed k points s p → Keyed k points s q → keyOf k points s p ≡ keyOf k points s q → p ≡ q

@@ -9,32 +9,25 @@ use native.Mathlib.Omega.{arith}
 use lib.ListN.{length, getD, length-map}
 use lib.IntN.{ℤ}
 use lib.Dec.{eqb}
-use borrow.Author.Tests.{ltb-true, lt-ltb, eqb-true, eq-eqb}
+use borrow.Author.Tests.{lt-ltb, eqb-true, eq-eqb}
 use Rattle.terms.specs.Tests.{every}
-use Rattle.terms.specs.Lent.{stock}
-use Rattle.terms.specs.Points.{coord, below}
+use Rattle.terms.specs.Points.{coord}
 use Rattle.terms.specs.Before.{before}
 use Rattle.theory.specs.Flags.{and-true, true-and}
 use Rattle.theory.specs.Counting.{Same, Distinct, same-length, same-every, same-distinct, distinct-places, every-at, at-every, count-map, count-same}
-use Rattle.theory.specs.Tested.{TestedPoints}
 use Rattle.arrange.specs.Key.{keyOf, Keyed, key-number, before-key}
 use Rattle.arrange.specs.Chosen.{Chosen}
 use Rattle.arrange.specs.WrittenInPlace.{map-at}
 
--- Every number of the run is one of m numbers whose points were tested, and dimension s is one of theirs.
+-- Every number of the run belongs to those that have a key on each dimension, and dimension s is one of these.
 pub record KeyedRun (k : ℕ) (points : List ℤ) (s : ℕ) (run : List ℕ) : Type 0 where
-  pub m : ℕ
-  pub tested : TestedPoints (stock k m points)
+  pub belongs : ℕ → Bool
+  pub has-key : (d p : ℕ) → d < k → belongs p ≡ true → Keyed k points d p
   pub dimension : s < k
-  pub numbers : every (below m) run ≡ true
+  pub numbers : every belongs run ≡ true
 
 pub keyed-at : {k s : ℕ} {points : List ℤ} {run : List ℕ} → KeyedRun k points s run → (i : ℕ) → i < length run → Keyed k points s (getD run i 0)
-keyed-at {run = run} w i h = record {
-  m = w .m;
-  tested = w .tested;
-  dimension = w .dimension;
-  belongs = every-at (below (w .m)) 0 run (w .numbers) i h;
-}
+keyed-at {s = s} {run = run} w i h = w .has-key s (getD run i 0) (w .dimension) (every-at (w .belongs) 0 run (w .numbers) i h)
 
 -- The number of a key.
 abbrev pub numberOf : ℕ → ℕ
@@ -50,9 +43,9 @@ module _ {k : ℕ} {points : List ℤ} {s : ℕ} {xs : List ℕ} (w : KeyedRun k
   abbrev key : ℕ → ℕ
   key = keyOf k points s
 
-  -- It is the key of its number, which is one of the m numbers.
+  -- It is the key of its number, which belongs.
   abbrev isKey : ℕ → Bool
-  isKey v = eqb v (key (numberOf v)) && below (w .m) (numberOf v)
+  isKey v = eqb v (key (numberOf v)) && w .belongs (numberOf v)
 
   keys : every isKey (map key xs) ≡ true
   keys = at-every isKey 0 (map key xs) (λ i h. at i (rw length-map at h))
@@ -61,7 +54,7 @@ module _ {k : ℕ} {points : List ℤ} {s : ℕ} {xs : List ℕ} (w : KeyedRun k
       at i h =
           let x : ℕ = getD xs i 0 in
           let r : numberOf (key x) ≡ x = key-number (keyed-at w i h) in
-          rw (map-at key xs i h, r) (true-and (eq-eqb (key x) (key x) refl) (every-at (below (w .m)) 0 xs (w .numbers) i h))
+          rw (map-at key xs i h, r) (true-and (eq-eqb (key x) (key x) refl) (every-at (w .belongs) 0 xs (w .numbers) i h))
 
   -- The keys in any order.
   module _ {zs : List ℕ} (c : Same zs (map key xs)) where
@@ -83,7 +76,7 @@ module _ {k : ℕ} {points : List ℤ} {s : ℕ} {xs : List ℕ} (w : KeyedRun k
         let v : ℕ = getD zs i 0 in
         let p = and-true (eqb v (key (numberOf v))) (every-at isKey 0 zs (same-every isKey c keys) i h) in (
           eqb-true v (key (numberOf v)) (p .0),
-          record { m = w .m; tested = w .tested; dimension = w .dimension; belongs = p .1 },
+          w .has-key s (numberOf v) (w .dimension) (p .1),
         )
 
     -- What is less as a key comes before as a number.

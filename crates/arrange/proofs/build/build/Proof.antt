@@ -5,7 +5,7 @@ use borrow.Author.Needs.{needs}
 use Rattle.terms.specs.Points.{below}
 use Rattle.terms.specs.Tree.{members}
 use Rattle.theory.specs.RisingNumbers.{length-rising, members-shelf}
-use Rattle.arrange.specs.Arranged.{members-arrangeable, arranged-tree}
+use Rattle.arrange.specs.Arranged.{stock-arrangeable, arranged-tree}
 use Rattle.arrange.proofs.build.build.Statement.{statement}
 use Rattle.arrange.proofs.build.build.Tie as tie
 
@@ -20,7 +20,7 @@ filled : (c : tie.After-fill) → (let m = c .before .before .before .args .m in
 filled c = c .fill .ensures
 
 arrange-requires : tie.Need-arrange-requires
-arrange-requires c κs = rw (filled (c .before .before .before)) (members-arrangeable (c .before .before .before .before .before .before .pre .0))
+arrange-requires c κs = rw (filled (c .before .before .before)) (stock-arrangeable _ (c .before .before .before .before .before .before .pre .0))
 
 same-length : tie.Need-same-length
 same-length c = search needs
