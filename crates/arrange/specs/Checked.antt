@@ -1,26 +1,28 @@
 -- The checker on the lent points: what its functions answer, and the answer from the root. The root's bounds leave every key in,
 -- so there it is asked that all numbers belong and that the order is a tree, which is the tree where there are as many slots as numbers.
-use mathlib.Core.Path.{_≡_, sym, ap, _∙_}
-use mathlib.Core.Bool.{Bool, true, _&&_}
-use mathlib.Core.List.{List}
-use Prim.Native.Nat.{ℕ, _≤_, _<_}
+use mathlib.Core.Path.{_≡_, refl, sym, ap, _∙_}
+use mathlib.Core.Bool.{Bool, true, false, _&&_, _||_, not}
+use mathlib.Core.List.{List, [], _∷_}
+use Prim.Native.Nat.{ℕ, suc, _+_, _≤_, _<_}
 use native.Mathlib.Omega.{arith}
-use lib.ListN.{length, getD, replicate, getD-replicate}
+use lib.ListN.{length, getD, take, drop, set, replicate, length-drop, getD-replicate}
+use lib.Seq.{getD-drop}
 use lib.IntN.{ℤ}
 use lib.Dec.{ltb}
 use Rattle.terms.specs.Tests.{every}
 use Rattle.terms.specs.Lent.{stock}
 use Rattle.terms.specs.Points.{coord, below}
+use Rattle.terms.specs.Run.{middle, axis, node, lefts, rights}
 use Rattle.terms.specs.Tree.{treeRun, isTree}
-use Rattle.theory.specs.Flags.{same-test}
-use Rattle.theory.specs.Counting.{every-at, at-every}
+use Rattle.theory.specs.Flags.{same-test, and-true, true-and}
+use Rattle.theory.specs.Counting.{every-at, at-every, every-part}
 use Rattle.theory.specs.Tested.{TestedPoints}
 use Rattle.theory.specs.RisingNumbers.{length-rising, members-shelf}
 use Rattle.theory.specs.EachNumberOnce.{below-under}
 use Rattle.theory.specs.TreeIsDistinct.{tree-test}
 use Rattle.arrange.specs.Key.{keyOf, Keyed, stock-keyed, key-small, key-number, before-key}
 use Rattle.arrange.specs.Allowed.{isAllowed, allThree, each-of-three, allowed, of-allowed, Ordered}
-use Rattle.arrange.specs.Descent.{isBranch, two-slots, three-slots}
+use Rattle.arrange.specs.Descent.{isBranch, two-slots, three-slots, two-branches}
 
 -- Number p of the m belongs, with its key within the bounds on each dimension.
 abbrev pub numberAllowed : ℕ → ℕ → List ℤ → List ℕ → List ℕ → ℕ → Bool
@@ -34,73 +36,176 @@ threeAllowed k m points least end p q r = allThree (numberAllowed k m points lea
 abbrev pub branchAllowed : ℕ → ℕ → List ℤ → List ℕ → List ℕ → ℕ → List ℕ → Bool
 branchAllowed k m points least end s run = isBranch k (coord k points) (below m) (keyOf k points) least end s run
 
--- What the descent requires: tested points, a dimension to split on, and two bounds for each dimension.
-pub record Descends (k m : ℕ) (points : List ℤ) (s : ℕ) (least end : List ℕ) : Type 0 where
-  pub tested : TestedPoints (stock k m points)
+-- Tests that agree on a run's numbers say the same of every one.
+every-alike : (p q : ℕ → Bool) (run : List ℕ) → ((i : ℕ) → i < length run → p (getD run i 0) ≡ q (getD run i 0)) → every p run ≡ every q run
+every-alike p q run same = same-test
+    (λ e. at-every q 0 run (λ i l. sym (same i l) ∙ every-at p 0 run e i l))
+    (λ e. at-every p 0 run (λ i l. same i l ∙ every-at q 0 run e i l))
+
+-- Those numbers of the run that are below m have a key on each dimension: they belong to numbers that have. Of the others nothing is known.
+pub record RunKnown (k m : ℕ) (points : List ℤ) (run : List ℕ) : Type 0 where
+  pub some : 1 ≤ k
+  pub few : k ≤ 4
+  pub belongs : ℕ → Bool
+  pub has-key : (d p : ℕ) → d < k → belongs p ≡ true → Keyed k points d p
+  pub numbers : every (λ p. not (below m p) || belongs p) run ≡ true
+
+-- What the descent requires: a run whose numbers are known, a dimension to split on, and two bounds for each dimension.
+pub record Descends (k m : ℕ) (points : List ℤ) (s : ℕ) (least end run : List ℕ) : Type 0 where
+  pub known : RunKnown k m points run
   pub dimension : s < k
   pub least-size : k ≤ length least
   pub end-size : k ≤ length end
 
-module _ {k m : ℕ} {points : List ℤ} (tested : TestedPoints (stock k m points)) where
-  -- A number that belongs has a key on each dimension.
-  pub keyed : (d p : ℕ) → d < k → below m p ≡ true → Keyed k points d p
-  keyed d p l e = stock-keyed tested d p l e
+-- Of m numbers that were tested every run is known.
+pub stock-known : {k m : ℕ} {points : List ℤ} → TestedPoints (stock k m points) → (run : List ℕ) → RunKnown k m points run
+stock-known {m = m} tested run = record {
+  some = tested .some;
+  few = tested .few;
+  belongs = below m;
+  has-key = stock-keyed tested;
+  numbers = at-every _ 0 run (λ i l. either (below m (getD run i 0)));
+}
+  where
+    either : (t : Bool) → not t || t ≡ true
+    either true = refl
+    either false = refl
 
-  pub ordered : Ordered k (coord k points) (below m) (keyOf k points)
-  ordered d p q l a b = before-key (keyed d p l a) (keyed d q l b)
+module _ {k m : ℕ} {points : List ℤ} {run : List ℕ} (w : RunKnown k m points run) where
+  -- Other numbers of the run are known too: some from its front, from its back, one, and three.
+  abbrev others : (part : List ℕ) → every (λ p. not (below m p) || w .belongs p) part ≡ true → RunKnown k m points part
+  others part e = record { some = w .some; few = w .few; belongs = w .belongs; has-key = w .has-key; numbers = e }
 
-  -- The last 32-bit number is no key, since its lower half is no number.
-  pub key-below-last : (d p : ℕ) → d < k → below m p ≡ true → keyOf k points d p < 4294967295
-  key-below-last d p l e =
-      let w = keyed d p l e in
-      omega (arith, key-small w, key-number w, w .small)
+  abbrev pub known-front : (c : ℕ) → RunKnown k m points (take c run)
+  known-front c = others (take c run) (every-part 0 _ 0 c run (w .numbers))
 
-  root-allowed : (p : ℕ) → numberAllowed k m points (replicate 4 0) (replicate 4 4294967295) p ≡ below m p
-  root-allowed p = same-test
+  abbrev pub known-back : (a : ℕ) → RunKnown k m points (drop a run)
+  known-back a = others (drop a run) (at-every _ 0 (drop a run) (λ i l.
+      rw getD-drop (every-at (λ p. not (below m p) || w .belongs p) 0 run (w .numbers) (a + i) (omega (arith, length-drop a run)))))
+
+  pub known-one : (i : ℕ) → i < length run → RunKnown k m points (getD run i 0 ∷ [])
+  unfolding every
+  known-one i l = others (getD run i 0 ∷ []) (true-and (every-at _ 0 run (w .numbers) i l) refl)
+
+  pub known-three : (i j h : ℕ) → i < length run → j < length run → h < length run → RunKnown k m points (getD run i 0 ∷ getD run j 0 ∷ getD run h 0 ∷ [])
+  unfolding every
+  known-three i j h l n o = others (getD run i 0 ∷ getD run j 0 ∷ getD run h 0 ∷ [])
+      (true-and (every-at _ 0 run (w .numbers) i l) (true-and (every-at _ 0 run (w .numbers) j n) (true-and (every-at _ 0 run (w .numbers) h o) refl)))
+
+  -- What is below m and belongs. In the run it is what is below m.
+  abbrev member : ℕ → Bool
+  member p = below m p && w .belongs p
+
+  member-at : (i : ℕ) → i < length run → member (getD run i 0) ≡ below m (getD run i 0)
+  member-at i l = go (below m (getD run i 0)) (w .belongs (getD run i 0)) (every-at _ 0 run (w .numbers) i l)
+    where
+      go : (s t : Bool) → not s || t ≡ true → s && t ≡ s
+      go true t e = e
+      go false t e = refl
+
+  member-ordered : Ordered k (coord k points) member (keyOf k points)
+  member-ordered d p q l a b = before-key (w .has-key d p l (and-true (below m p) a .1)) (w .has-key d q l (and-true (below m q) b .1))
+
+  -- A number of the run that is below m has a key on each dimension, and the last 32-bit number is no key, since its lower half is no number.
+  pub run-keyed : (i : ℕ) → i < length run → below m (getD run i 0) ≡ true → (d : ℕ) → d < k → Keyed k points d (getD run i 0)
+  run-keyed i l e d h = w .has-key d (getD run i 0) h (and-true (below m (getD run i 0)) (member-at i l ∙ e) .1)
+
+  pub key-below-last : (i : ℕ) → i < length run → below m (getD run i 0) ≡ true → (d : ℕ) → d < k → keyOf k points d (getD run i 0) < 4294967295
+  key-below-last i l e d h =
+      let q = run-keyed i l e d h in
+      omega (arith, key-small q, key-number q, q .small)
+
+  -- So in the run the same is allowed, and the same answered, of what is below m and of what belongs.
+  same-allowed : (least end : List ℕ) (i : ℕ) → i < length run
+      → isAllowed k member (keyOf k points) least end (getD run i 0) ≡ numberAllowed k m points least end (getD run i 0)
+  unfolding isAllowed
+  same-allowed least end i l = rw (member-at i l)
+
+  same-branch : (least end : List ℕ) (s : ℕ) → isBranch k (coord k points) member (keyOf k points) least end s run ≡ branchAllowed k m points least end s run
+  unfolding isBranch
+  same-branch least end s =
+      ap (λ (t : Bool). t && treeRun (length run) k (coord k points) s run)
+      (every-alike (isAllowed k member (keyOf k points) least end) (numberAllowed k m points least end) run (same-allowed least end))
+
+  -- At the root every key is allowed: the descent from there answers whether the numbers are below m and the order is a tree.
+  root-allowed : (i : ℕ) → i < length run → numberAllowed k m points (replicate 4 0) (replicate 4 4294967295) (getD run i 0) ≡ below m (getD run i 0)
+  root-allowed i l =
+      let p : ℕ = getD run i 0 in
+      let four = w .few in
+      same-test
       (λ e. allowed k (below m) (keyOf k points) (replicate 4 0) (replicate 4 4294967295) p e .belonging)
       (λ e. of-allowed k (below m) (keyOf k points) (replicate 4 0) (replicate 4 4294967295) p (record {
         belonging = e;
-        from-least = λ d l. omega (arith, getD-replicate {A = ℕ} 4 d 0 0 (omega arith));
-        below-end = λ d l. omega (arith, getD-replicate {A = ℕ} 4 d 4294967295 0 (omega arith), key-below-last d p l e);
+        from-least = λ d h. omega (arith, getD-replicate {A = ℕ} 4 d 0 0 (omega arith));
+        below-end = λ d h. omega (arith, getD-replicate {A = ℕ} 4 d 4294967295 0 (omega arith), key-below-last i l e d h);
       }))
 
-  -- The descent from the root answers whether the order is the tree of the m numbers.
-  pub root-answer : (order : List ℕ) → length order ≡ m
-      → branchAllowed k m points (replicate 4 0) (replicate 4 4294967295) 0 order ≡ isTree k (coord k points) (below m) m order
+  pub root-branch : branchAllowed k m points (replicate 4 0) (replicate 4 4294967295) 0 run ≡ every (below m) run && treeRun (length run) k (coord k points) 0 run
   unfolding isBranch
-  root-answer order size =
-      ap (λ (t : Bool). t && treeRun (length order) k (coord k points) 0 order) all-belong
-      ∙ sym (tree-test k (coord k points) (below m) m order (below-under m) (size ∙ sym (ap length (members-shelf m) ∙ length-rising 0 m)))
-    where
-      all-belong : every (numberAllowed k m points (replicate 4 0) (replicate 4 4294967295)) order ≡ every (below m) order
-      all-belong = same-test
-          (λ e. at-every (below m) 0 order (λ i l. sym (root-allowed (getD order i 0)) ∙ every-at _ 0 order e i l))
-          (λ e. at-every _ 0 order (λ i l. root-allowed (getD order i 0) ∙ every-at (below m) 0 order e i l))
+  root-branch =
+      ap (λ (t : Bool). t && treeRun (length run) k (coord k points) 0 run)
+      (every-alike (numberAllowed k m points (replicate 4 0) (replicate 4 4294967295)) (below m) run root-allowed)
+
+-- Of m tested numbers and as many slots that is whether the order is the tree of the m numbers.
+pub root-answer : {k m : ℕ} {points : List ℤ} → TestedPoints (stock k m points) → (order : List ℕ) → length order ≡ m
+    → branchAllowed k m points (replicate 4 0) (replicate 4 4294967295) 0 order ≡ isTree k (coord k points) (below m) m order
+root-answer {k} {m} {points} tested order size =
+    root-branch (stock-known tested order)
+    ∙ sym (tree-test k (coord k points) (below m) m order (below-under m) (size ∙ sym (ap length (members-shelf m) ∙ length-rising 0 m)))
 
 -- Within the descent.
-module _ {k m : ℕ} {points : List ℤ} {s : ℕ} {least end : List ℕ} (w : Descends k m points s least end) where
-  -- Three numbers that are allowed have a key on the dimension to split on.
-  pub three-keyed : (p q r : ℕ) → threeAllowed k m points least end p q r ≡ true
-      → Keyed k points s p × Keyed k points s q × Keyed k points s r
-  three-keyed p q r e =
-      let each = each-of-three (numberAllowed k m points least end) p q r e in
-      (has-key p (each .first), has-key q (each .second), has-key r (each .third))
-    where
-      has-key : (i : ℕ) → numberAllowed k m points least end i ≡ true → Keyed k points s i
-      has-key i a = keyed (w .tested) s i (w .dimension) (allowed k (below m) (keyOf k points) least end i a .belonging)
+module _ {k m : ℕ} {points : List ℤ} {s : ℕ} {least end run : List ℕ} (w : Descends k m points s least end run) where
+  -- A number of the run that is allowed is below m and has a key on the dimension to split on.
+  pub allowed-below : (i : ℕ) → numberAllowed k m points least end (getD run i 0) ≡ true → below m (getD run i 0) ≡ true
+  allowed-below i a = allowed k (below m) (keyOf k points) least end (getD run i 0) a .belonging
+
+  pub allowed-keyed : (i : ℕ) → i < length run → numberAllowed k m points least end (getD run i 0) ≡ true → Keyed k points s (getD run i 0)
+  allowed-keyed i l a = run-keyed (w .known) i l (allowed-below i a) s (w .dimension)
+
+  pub three-keyed : (i j h : ℕ) → i < length run → j < length run → h < length run
+      → threeAllowed k m points least end (getD run i 0) (getD run j 0) (getD run h 0) ≡ true
+      → Keyed k points s (getD run i 0) × Keyed k points s (getD run j 0) × Keyed k points s (getD run h 0)
+  three-keyed i j h l n o e =
+      let each = each-of-three (numberAllowed k m points least end) (getD run i 0) (getD run j 0) (getD run h 0) e in
+      (allowed-keyed i l (each .first), allowed-keyed j n (each .second), allowed-keyed h o (each .third))
 
   -- The answer on a run of two slots and on one of three: the numbers are allowed, and their keys rise.
-  pub on-two : (run : List ℕ) → length run ≡ 2
+  pub on-two : length run ≡ 2
       → (let q = getD run 0 0 in
       let p = getD run 1 0 in
       branchAllowed k m points least end s run ≡ (threeAllowed k m points least end p q q && ltb (keyOf k points s q) (keyOf k points s p)))
-  on-two = two-slots k (coord k points) (below m) (keyOf k points) (ordered (w .tested)) least end s (w .dimension)
+  on-two size =
+      sym (same-branch (w .known) least end s)
+      ∙ two-slots k (coord k points) (member (w .known)) (keyOf k points) (member-ordered (w .known)) least end s (w .dimension) run size
+      ∙ rw (same-allowed (w .known) least end 1 (omega arith), same-allowed (w .known) least end 0 (omega arith))
 
-  pub on-three : (run : List ℕ) → length run ≡ 3
+  pub on-three : length run ≡ 3
       → (let q = getD run 0 0 in
       let p = getD run 1 0 in
       let r = getD run 2 0 in
       branchAllowed k m points least end s run
       ≡ (threeAllowed k m points least end p q r
       && (ltb (keyOf k points s q) (keyOf k points s p) && ltb (keyOf k points s p) (keyOf k points s r))))
-  on-three = three-slots k (coord k points) (below m) (keyOf k points) (ordered (w .tested)) least end s (w .dimension)
+  on-three size =
+      sym (same-branch (w .known) least end s)
+      ∙ three-slots k (coord k points) (member (w .known)) (keyOf k points) (member-ordered (w .known)) least end s (w .dimension) run size
+      ∙ rw (
+        same-allowed (w .known) least end 1 (omega arith),
+        same-allowed (w .known) least end 0 (omega arith),
+        same-allowed (w .known) least end 2 (omega arith),
+      )
+
+  -- The answer on a run whose node is allowed: that on its two branches.
+  pub on-branches : (n : ℕ) → 0 < length run → axis k n ≡ axis k (suc s) → numberAllowed k m points least end (node run) ≡ true
+      → branchAllowed k m points least end s run
+      ≡ (branchAllowed k m points least (set end s (keyOf k points s (node run))) n (lefts run)
+      && branchAllowed k m points (set least s (keyOf k points s (node run) + 1)) end n (rights run))
+  on-branches n some e a =
+      let half : middle (length run) < length run = omega arith in
+      sym (same-branch (w .known) least end s)
+      ∙ two-branches
+      k (coord k points) (member (w .known)) (keyOf k points) (member-ordered (w .known)) least end s n run some (w .dimension)
+      (omega (arith, w .dimension, w .least-size)) (omega (arith, w .dimension, w .end-size)) e
+      (same-allowed (w .known) least end (middle (length run)) half ∙ a)
+      ∙ rw (same-branch (known-front (w .known) (middle (length run))) least (set end s (keyOf k points s (node run))) n)
+      (rw (same-branch (known-back (w .known) (middle (length run) + 1)) (set least s (keyOf k points s (node run) + 1)) end n))

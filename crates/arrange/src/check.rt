@@ -5,13 +5,14 @@ use crate::belongs::belongs;
 use crate::key::key;
 use terms::axis::next_axis;
 ghost use mathlib.Core.Path.{_≡_};
+ghost use mathlib.Core.List.{[], _∷_};
 ghost use Prim.Native.Nat.{_<_};
 ghost use lib.ListN.{length};
 ghost use Rattle.terms.specs.Lent.{stock};
 ghost use Rattle.terms.specs.Points.{coord, below};
 ghost use Rattle.terms.specs.Tree.{isTree};
 ghost use Rattle.theory.specs.Tested.{TestedPoints};
-ghost use Rattle.arrange.specs.Checked.{Descends, numberAllowed, threeAllowed, branchAllowed};
+ghost use Rattle.arrange.specs.Checked.{RunKnown, Descends, numberAllowed, threeAllowed, branchAllowed};
 
 // Whether numbers p, q and r belong, each with its key on every dimension at least the least there and below the end.
 // The turns are four at most, a constant, so that a compiler can lay them out one after another.
@@ -25,7 +26,7 @@ fn three_allowed(
     q: u32,
     r: u32,
 ) -> bool
-    requires { ⌜ TestedPoints (stock k m (now points)) ⌝ }
+    requires { ⌜ RunKnown k m (now points) (p ∷ q ∷ r ∷ []) ⌝ }
     ensures { λ t. ⌜ t ≡ threeAllowed k m (now (points .entry)) least end p q r ⌝ }
 {
     if !(belongs(m, p) & belongs(m, q) & belongs(m, r)) {
@@ -51,7 +52,7 @@ fn three_allowed(
 
 // The same of one number.
 fn allowed(k: usize, m: usize, points: &[i32], least: [u32; 4], end: [u32; 4], p: u32) -> bool
-    requires { ⌜ TestedPoints (stock k m (now points)) ⌝ }
+    requires { ⌜ RunKnown k m (now points) (p ∷ []) ⌝ }
     ensures { λ r. ⌜ r ≡ numberAllowed k m (now (points .entry)) least end p ⌝ }
 {
     three_allowed(k, m, points, least, end, p, p, p)
@@ -67,7 +68,7 @@ fn few_slots(
     least: [u32; 4],
     end: [u32; 4],
 ) -> bool
-    requires { ⌜ Descends k m (now points) s least end ⌝ }
+    requires { ⌜ Descends k m (now points) s least end (now order) ⌝ }
     requires { ⌜ length (now order) < 3 ⌝ }
     ensures { λ r. ⌜ r ≡ branchAllowed k m (now (points .entry)) least end s (now (order .entry)) ⌝ }
 {
@@ -96,7 +97,7 @@ fn three_slots(
     least: [u32; 4],
     end: [u32; 4],
 ) -> bool
-    requires { ⌜ Descends k m (now points) s least end ⌝ }
+    requires { ⌜ Descends k m (now points) s least end (now order) ⌝ }
     requires { ⌜ length (now order) ≡ 3 ⌝ }
     ensures { λ r. ⌜ r ≡ branchAllowed k m (now (points .entry)) least end s (now (order .entry)) ⌝ }
 {
@@ -120,7 +121,7 @@ fn branch(
     least: [u32; 4],
     end: [u32; 4],
 ) -> bool
-    requires { ⌜ Descends k m (now points) s least end ⌝ }
+    requires { ⌜ Descends k m (now points) s least end (now order) ⌝ }
     ensures { λ r. ⌜ r ≡ branchAllowed k m (now (points .entry)) least end s (now (order .entry)) ⌝ }
 {
     let c = order.len();
@@ -144,7 +145,7 @@ fn node(
     least: [u32; 4],
     end: [u32; 4],
 ) -> bool
-    requires { ⌜ Descends k m (now points) s least end ⌝ }
+    requires { ⌜ Descends k m (now points) s least end (now order) ⌝ }
     requires { ⌜ 0 < length (now order) ⌝ }
     ensures { λ r. ⌜ r ≡ branchAllowed k m (now (points .entry)) least end s (now (order .entry)) ⌝ }
 {

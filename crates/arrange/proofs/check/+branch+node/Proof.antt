@@ -1,5 +1,5 @@
 -- The descent, a branch and its node in turn. The measures are 2 c + 1 for a branch of c slots and 2 c for its node. Where the node is allowed
--- the descent's law, `two-branches`, gives the answer by the two branches, once the parts lent to the calls are seen to be the left and the
+-- the descent's law, `on-branches`, gives the answer by the two branches, once the parts lent to the calls are seen to be the left and the
 -- right branch and the key to be the node's.
 use mathlib.Core.Path.{_≡_, sym, ap, _∙_}
 use mathlib.Core.Bool.{Bool, true, _&&_}
@@ -9,15 +9,13 @@ use native.Mathlib.Nat.{sub-zero, mod-lt}
 use native.Mathlib.Omega.{arith}
 use lib.ListN.{length, take, drop, set, length-take, length-set}
 use lib.Seq.{take-all}
-use Rattle.terms.specs.Points.{coord, below}
 use Rattle.terms.specs.Run.{middle, node, lefts, rights}
 use Rattle.theory.specs.Answers.{refused, accepted}
 use Rattle.theory.specs.RunParts.{right-length}
 use Rattle.theory.specs.TreeDepth.{next-depth}
-use Rattle.arrange.specs.Key.{keyOf}
 use Rattle.arrange.specs.Allowed.{allowed}
-use Rattle.arrange.specs.Descent.{refused-node, two-branches}
-use Rattle.arrange.specs.Checked.{branchAllowed, numberAllowed, keyed, ordered, key-below-last}
+use Rattle.arrange.specs.Descent.{refused-node}
+use Rattle.arrange.specs.Checked.{branchAllowed, numberAllowed, known-front, known-back, known-one, key-below-last, allowed-below, allowed-keyed, on-branches}
 use borrow.Fn.Kinds.{In}
 use borrow.Fn.PlainCycle.{Measures, is, falls, and}
 use Rattle.arrange.proofs.check.branch.Reads as branch-reads
@@ -114,25 +112,22 @@ module _ (t : ℕ) where
   read-p c = omega (arith, c .before .before .pre .1 .1)
 
   allowed-requires : node-lts.Need-allowed-requires calls at node-reads.Post
-  allowed-requires c κs = c .before .before .pre .1 .0 .tested
+  allowed-requires c κs =
+      let b = c .before .before in
+      known-one (b .pre .1 .0 .known) (middle (length (b .args .order .now))) (omega (arith, b .pre .1 .1))
 
   returns : node-lts.Need-returns calls at node-reads.Post
   returns c = sym (refused-node _ _ _ _ _ _ _ _ (c .before .before .before .before .pre .1 .1) (refused (c .before .allowed .ensures) (c .if1 .taken)))
 
-  -- Past its test the node is allowed, and its number belongs.
+  -- Past its test the node is allowed.
   node-allowed : (c : node-lts.Else1 calls at node-reads.Post)
       → (let b = c .before .before .before .before in test b (node (b .args .order .now)) ≡ true)
   node-allowed c = accepted (c .before .allowed .ensures) (c .if1 .left)
 
-  node-belongs : (c : node-lts.Else1 calls at node-reads.Post)
-      → (let a = c .before .before .before .before .args in below (a .m) (node (a .order .now)) ≡ true)
-  node-belongs c = allowed _ _ _ _ _ _ (node-allowed c) .belonging
-
   key-requires : node-lts.Need-key-requires calls at node-reads.Post
   key-requires c κs =
       let b = c .before .before .before .before in
-      let p = b .pre .1 .0 in
-      keyed (p .tested) (b .args .s) (node (b .args .order .now)) (p .dimension) (node-belongs c)
+      allowed-keyed (b .pre .1 .0) (middle (length (b .args .order .now))) (omega (arith, b .pre .1 .1)) (node-allowed c)
 
   next-axis-requires : node-lts.Need-next-axis-requires calls at node-reads.Post
   next-axis-requires c κs = c .before .before .before .before .before .pre .1 .0 .dimension
@@ -158,21 +153,10 @@ module _ (t : ℕ) where
       let b = c .before .before .before .before .before .before in
       let a = b .args in
       let p = b .pre .1 .0 in
-      rw (c .before .key .ensures, lent-left, lent-right) (two-branches
-      (a .k)
-      (coord (a .k) (a .points .now))
-      (below (a .m))
-      (keyOf (a .k) (a .points .now))
-      (ordered (p .tested))
-      (a .least)
-      (a .end)
-      (a .s)
+      rw (c .before .key .ensures, lent-left, lent-right) (on-branches
+      p
       (c .next-axis .result)
-      (a .order .now)
       (b .pre .1 .1)
-      (p .dimension)
-      (omega (arith, p))
-      (omega (arith, p))
       (next-depth (a .k) (a .s) (c .next-axis .result) (c .next-axis .ensures))
       (node-allowed (c .before .before)))
 
@@ -207,7 +191,7 @@ module _ (t : ℕ) where
       let p = b .pre .1 .0 in (
         omega (arith, b .pre .0, b .pre .1 .1, length-take (length (a .order .now) / 2 - 0) (a .order .now)),
         record {
-          tested = p .tested;
+          known = known-front (p .known) (length (a .order .now) / 2 - 0);
           dimension = next-below (c .before);
           least-size = p .least-size;
           end-size = rw length-set (p .end-size);
@@ -225,7 +209,9 @@ module _ (t : ℕ) where
       let e = c .before .before .before .before in
       let b = e .before .before .before .before .before in
       let p = b .pre .1 .0 in
-      let small = key-below-last (p .tested) (b .args .s) (node (b .args .order .now)) (p .dimension) (node-belongs (e .before)) in
+      let h = middle (length (b .args .order .now)) in
+      let half : h < length (b .args .order .now) = omega (arith, b .pre .1 .1) in
+      let small = key-below-last (p .known) h half (allowed-below p h (node-allowed (e .before))) (b .args .s) (p .dimension) in
       omega (arith, e .key .ensures, small)
 
   mul-right-least : node-lts.Need-mul-right-least calls at node-reads.Post
@@ -257,7 +243,7 @@ module _ (t : ℕ) where
       let h : ℕ = length (a .order .now) / 2 in (
         omega (arith, b .pre .0, b .pre .1 .1, length-take (length (a .order .now) - (h + 1)) (drop (h + 1) (a .order .now))),
         record {
-          tested = p .tested;
+          known = known-front (known-back (p .known) (h + 1)) (length (a .order .now) - (h + 1));
           dimension = next-below (c .before .before .before .before);
           least-size = rw length-set (p .least-size);
           end-size = p .end-size;

@@ -1,8 +1,8 @@
 -- One number is three of it.
 use mathlib.Core.Path.{_≡_, refl, _∙_}
 use mathlib.Core.Bool.{Bool, true, false, _&&_}
-use borrow.Author.Needs.{needs}
-use Rattle.arrange.specs.Checked.{numberAllowed}
+use native.Mathlib.Omega.{arith}
+use Rattle.arrange.specs.Checked.{numberAllowed, known-three}
 use Rattle.arrange.proofs.check.allowed.Statement.{statement}
 use Rattle.arrange.proofs.check.allowed.Tie as tie
 
@@ -11,7 +11,7 @@ thrice true = refl
 thrice false = refl
 
 three-allowed-requires : tie.Need-three-allowed-requires
-three-allowed-requires c κs = search needs
+three-allowed-requires c κs = known-three (c .pre) 0 0 0 (omega arith) (omega arith) (omega arith)
 
 returns : tie.Need-returns
 returns c =

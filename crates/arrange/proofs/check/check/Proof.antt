@@ -3,7 +3,7 @@ use mathlib.Core.Path.{_≡_, sym, _∙_}
 use native.Mathlib.Omega.{arith}
 use lib.ListN.{replicate}
 use Rattle.arrange.specs.Descent.{empty-branch}
-use Rattle.arrange.specs.Checked.{branchAllowed, root-answer}
+use Rattle.arrange.specs.Checked.{branchAllowed, stock-known, root-answer}
 use Rattle.arrange.proofs.check.check.Statement.{statement}
 use Rattle.arrange.proofs.check.check.Tie as tie
 
@@ -14,8 +14,9 @@ returns c =
 
 node-requires : tie.Need-node-requires
 node-requires c κs =
-    let tested = c .before .before .pre .0 in
-    (record { tested = tested; dimension = omega arith; least-size = omega arith; end-size = omega arith }, omega arith)
+    let b = c .before .before in
+    let tested = b .pre .0 in
+    (record { known = stock-known tested (b .args .order .now); dimension = omega arith; least-size = omega arith; end-size = omega arith }, omega arith)
 
 -- The answer of the descent from the root.
 from-root : (c : tie.After-node) → (let a = c .before .before .before .args in

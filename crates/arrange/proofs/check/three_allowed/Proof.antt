@@ -7,9 +7,9 @@ use native.Mathlib.Omega.{arith}
 use borrow.Author.Count.{below-more}
 use Rattle.terms.specs.Points.{below}
 use Rattle.theory.specs.Answers.{refused, accepted}
-use Rattle.arrange.specs.Key.{keyOf, Keyed}
+use Rattle.arrange.specs.Key.{keyOf}
 use Rattle.arrange.specs.Allowed.{isWithin, allThree, EachOfThree, each-of-three, not-belonging, not-within, all-within}
-use Rattle.arrange.specs.Checked.{threeAllowed, keyed}
+use Rattle.arrange.specs.Checked.{threeAllowed, run-keyed}
 use Rattle.arrange.proofs.check.three_allowed.Statement.{statement}
 use Rattle.arrange.proofs.check.three_allowed.Tie as tie
 
@@ -64,27 +64,24 @@ mul-e c = omega (arith, c .before .loop-test .taken)
 array-read-e : tie.Need-array-read-e Inv-loop μ-loop
 array-read-e c = omega (arith, c .before .loop-test .taken)
 
--- A number that belongs has a key on the turn's dimension.
+-- The three numbers are below m, so that each has a key on the turn's dimension.
 each-belongs : (c : tie.Else2 Inv-loop μ-loop) → (let a = c .before .before .before .before .before .before .before .args in
     EachOfThree (below (a .m)) (a .p) (a .q) (a .r))
 each-belongs c = each-of-three _ _ _ _ (belonging (c .before .before .before))
 
-has-key : (c : tie.Else2 Inv-loop μ-loop) (n : ℕ) → (let a = c .before .before .before .before .before .before .before .args in
-    below (a .m) n ≡ true → Keyed (a .k) (a .points .now) (c .before .before .loop .d) n)
-has-key c n e = keyed (c .before .before .before .before .before .before .before .pre) (c .before .before .loop .d) n (c .if2 .left) e
-
 key-requires : tie.Need-key-requires Inv-loop μ-loop
-key-requires c κs = has-key c (c .before .before .before .before .before .before .before .args .p) (each-belongs c .first)
+key-requires c κs =
+    run-keyed (c .before .before .before .before .before .before .before .pre) 0 (omega arith) (each-belongs c .first) (c .before .before .loop .d) (c .if2 .left)
 
 key-requires-2 : tie.Need-key-requires-2 Inv-loop μ-loop
 key-requires-2 c κs =
     let e = c .before in
-    has-key e (e .before .before .before .before .before .before .before .args .q) (each-belongs e .second)
+    run-keyed (e .before .before .before .before .before .before .before .pre) 1 (omega arith) (each-belongs e .second) (e .before .before .loop .d) (e .if2 .left)
 
 key-requires-3 : tie.Need-key-requires-3 Inv-loop μ-loop
 key-requires-3 c κs =
     let e = c .before .before in
-    has-key e (e .before .before .before .before .before .before .before .args .r) (each-belongs e .third)
+    run-keyed (e .before .before .before .before .before .before .before .pre) 2 (omega arith) (each-belongs e .third) (e .before .before .loop .d) (e .if2 .left)
 
 -- What a turn asks of the three numbers, and that its test of their keys answers it.
 abbrev asked : tie.After-key3 Inv-loop μ-loop → Bool

@@ -4,7 +4,7 @@ use mathlib.Core.Bool.{true}
 use native.Mathlib.Omega.{arith}
 use lib.ListN.{getD}
 use Rattle.theory.specs.Answers.{refused, accepted}
-use Rattle.arrange.specs.Checked.{threeAllowed, three-keyed, on-three}
+use Rattle.arrange.specs.Checked.{threeAllowed, known-three, three-keyed, on-three}
 use Rattle.arrange.proofs.check.three_slots.Statement.{statement}
 use Rattle.arrange.proofs.check.three_slots.Tie as tie
 
@@ -18,12 +18,12 @@ shared-slice-read-r : tie.Need-shared-slice-read-r
 shared-slice-read-r c = omega arith
 
 three-allowed-requires : tie.Need-three-allowed-requires
-three-allowed-requires c κs = c .before .before .before .before .pre .0 .tested
+three-allowed-requires c κs = known-three (c .before .before .before .before .pre .0 .known) 1 0 2 (omega arith) (omega arith) (omega arith)
 
 returns : tie.Need-returns
 returns c =
     let b = c .before .before .before .before .before .before in
-    sym (on-three (b .pre .0) (b .args .order .now) (b .pre .1) ∙ rw (refused (c .before .three-allowed .ensures) (c .if1 .taken)))
+    sym (on-three (b .pre .0) (b .pre .1) ∙ rw (refused (c .before .three-allowed .ensures) (c .if1 .taken)))
 
 all-allowed : (c : tie.Else1) → (let a = c .before .before .before .before .before .before .args in
     let run = a .order .now in
@@ -31,19 +31,25 @@ all-allowed : (c : tie.Else1) → (let a = c .before .before .before .before .be
 all-allowed c = accepted (c .before .three-allowed .ensures) (c .if1 .left)
 
 key-requires : tie.Need-key-requires
-key-requires c κs = three-keyed (c .before .before .before .before .before .before .pre .0) _ _ _ (all-allowed c) .0
+key-requires c κs =
+    let b = c .before .before .before .before .before .before in
+    three-keyed (b .pre .0) 1 0 2 (omega (arith, b .pre .1)) (omega (arith, b .pre .1)) (omega (arith, b .pre .1)) (all-allowed c) .0
 
 key-requires-2 : tie.Need-key-requires-2
-key-requires-2 c κs = three-keyed (c .before .before .before .before .before .before .before .pre .0) _ _ _ (all-allowed (c .before)) .1
+key-requires-2 c κs =
+    let b = c .before .before .before .before .before .before .before in
+    three-keyed (b .pre .0) 1 0 2 (omega (arith, b .pre .1)) (omega (arith, b .pre .1)) (omega (arith, b .pre .1)) (all-allowed (c .before)) .1
 
 key-requires-3 : tie.Need-key-requires-3
-key-requires-3 c κs = three-keyed (c .before .before .before .before .before .before .before .before .pre .0) _ _ _ (all-allowed (c .before .before)) .2
+key-requires-3 c κs =
+    let b = c .before .before .before .before .before .before .before .before in
+    three-keyed (b .pre .0) 1 0 2 (omega (arith, b .pre .1)) (omega (arith, b .pre .1)) (omega (arith, b .pre .1)) (all-allowed (c .before .before)) .2
 
 returns-2 : tie.Need-returns-2
 returns-2 c =
     let b = c .before .before .before .before .before .before .before .before .before in
     rw (c .before .before .key .ensures, c .before .key2 .ensures, c .key3 .ensures)
-    (sym (on-three (b .pre .0) (b .args .order .now) (b .pre .1) ∙ rw (all-allowed (c .before .before .before))))
+    (sym (on-three (b .pre .0) (b .pre .1) ∙ rw (all-allowed (c .before .before .before))))
 
 pub three-slots-spec : {M : Type 1} → statement M
 three-slots-spec =
