@@ -15,7 +15,7 @@ use Rattle.terms.specs.Points.{coord, below}
 use Rattle.terms.specs.Run.{middle, axis, node, lefts, rights}
 use Rattle.terms.specs.Tree.{treeRun, isTree}
 use Rattle.theory.specs.Flags.{same-test, and-true, true-and}
-use Rattle.theory.specs.Counting.{every-at, at-every, every-part}
+use Rattle.theory.specs.Counting.{every-at, at-every, every-same, every-part}
 use Rattle.theory.specs.Tested.{TestedPoints}
 use Rattle.theory.specs.RisingNumbers.{length-rising, members-shelf}
 use Rattle.theory.specs.EachNumberOnce.{below-under}
@@ -35,12 +35,6 @@ threeAllowed k m points least end p q r = allThree (numberAllowed k m points lea
 -- Every number of the run is allowed, and the run is a branch whose node splits on dimension s.
 abbrev pub branchAllowed : ℕ → ℕ → List ℤ → List ℕ → List ℕ → ℕ → List ℕ → Bool
 branchAllowed k m points least end s run = isBranch k (coord k points) (below m) (keyOf k points) least end s run
-
--- Tests that agree on a run's numbers say the same of every one.
-every-alike : (p q : ℕ → Bool) (run : List ℕ) → ((i : ℕ) → i < length run → p (getD run i 0) ≡ q (getD run i 0)) → every p run ≡ every q run
-every-alike p q run same = same-test
-    (λ e. at-every q 0 run (λ i l. sym (same i l) ∙ every-at p 0 run e i l))
-    (λ e. at-every p 0 run (λ i l. same i l ∙ every-at q 0 run e i l))
 
 -- Those numbers of the run that are below m have a key on each dimension: they belong to numbers that have. Of the others nothing is known.
 pub record RunKnown (k m : ℕ) (points : List ℤ) (run : List ℕ) : Type 0 where
@@ -125,7 +119,7 @@ module _ {k m : ℕ} {points : List ℤ} {run : List ℕ} (w : RunKnown k m poin
   unfolding isBranch
   same-branch least end s =
       ap (λ (t : Bool). t && treeRun (length run) k (coord k points) s run)
-      (every-alike (isAllowed k member (keyOf k points) least end) (numberAllowed k m points least end) run (same-allowed least end))
+      (every-same 0 (isAllowed k member (keyOf k points) least end) (numberAllowed k m points least end) run (same-allowed least end))
 
   -- At the root every key is allowed: the descent from there answers whether the numbers are below m and the order is a tree.
   root-allowed : (i : ℕ) → i < length run → numberAllowed k m points (replicate 4 0) (replicate 4 4294967295) (getD run i 0) ≡ below m (getD run i 0)
@@ -144,7 +138,7 @@ module _ {k m : ℕ} {points : List ℤ} {run : List ℕ} (w : RunKnown k m poin
   unfolding isBranch
   root-branch =
       ap (λ (t : Bool). t && treeRun (length run) k (coord k points) 0 run)
-      (every-alike (numberAllowed k m points (replicate 4 0) (replicate 4 4294967295)) (below m) run root-allowed)
+      (every-same 0 (numberAllowed k m points (replicate 4 0) (replicate 4 4294967295)) (below m) run root-allowed)
 
 -- Of m tested numbers and as many slots that is whether the order is the tree of the m numbers.
 pub root-answer : {k m : ℕ} {points : List ℤ} → TestedPoints (stock k m points) → (order : List ℕ) → length order ≡ m

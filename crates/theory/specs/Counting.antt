@@ -12,7 +12,7 @@ use lib.Dec.{eqb}
 use borrow.Author.Tests.{eq-eqb}
 use Rattle.whole.specs.IndexedTotal.{totalTo, total-front}
 use Rattle.terms.specs.Tests.{bit, count, every, keep, pick}
-use Rattle.theory.specs.Flags.{and-true, true-and, and-yes, and-assoc}
+use Rattle.theory.specs.Flags.{same-test, and-true, true-and, and-yes, and-assoc}
 
 -- Every item passes: item by item.
 pub every-at : {A : Type 0} (test : A → Bool) (z : A) (xs : List A) → every test xs ≡ true → (i : ℕ) → i < length xs → test (getD xs i z) ≡ true
@@ -25,6 +25,12 @@ pub at-every : {A : Type 0} (test : A → Bool) (z : A) (xs : List A) → ((i : 
 unfolding every
 at-every test z [] e = refl
 at-every test z (x ∷ xs) e = true-and (e 0 (omega arith)) (at-every test z xs (λ i l. e (suc i) (omega arith)))
+
+-- Tests that agree on the items say the same of every one.
+pub every-same : {A : Type 0} (z : A) (p q : A → Bool) (xs : List A) → ((i : ℕ) → i < length xs → p (getD xs i z) ≡ q (getD xs i z)) → every p xs ≡ every q xs
+every-same z p q xs same = same-test
+    (λ e. at-every q z xs (λ i l. sym (same i l) ∙ every-at p z xs e i l))
+    (λ e. at-every p z xs (λ i l. same i l ∙ every-at q z xs e i l))
 
 -- What every item passes, the items of a part pass.
 pub every-part : {A : Type 0} (z : A) (test : A → Bool) (a c : ℕ) (xs : List A) → every test xs ≡ true → every test (take c (drop a xs)) ≡ true

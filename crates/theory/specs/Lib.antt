@@ -57,6 +57,7 @@ pub mod ExplainCall
 pub mod TreeIsDistinct
 pub mod TreeDepth
 pub mod RunTests
+pub mod PointsThatBelong
 pub mod Answers
 pub mod RootBoxOfSame
 pub mod Floors
