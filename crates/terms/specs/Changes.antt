@@ -2,7 +2,8 @@
 use mathlib.Core.Bool.{Bool, true, false, _&&_}
 use mathlib.Core.List.{List, [], _∷_}
 use Prim.Native.Nat.{ℕ}
-use lib.Dec.{ltb}
+use lib.ListN.{length}
+use lib.Dec.{eqb, ltb}
 use Rattle.terms.specs.Live.{isLive, lowestDead, takenLive, withdrawnLive}
 
 -- What one of the two calls came to: a number was taken, a number was withdrawn, or the call was refused.
@@ -11,10 +12,10 @@ pub data Change : Type 0 where
   withdrawn : ℕ → Change
   refused : Change
 
--- A take is done only where a number is dead, a withdrawal only of a live number.
+-- A take is done only where a number is dead, a withdrawal only of a live number, and both only where there is a live byte for each of the n numbers.
 abbrev pub mayChange : ℕ → List ℕ → Change → Bool
-mayChange n live taken = ltb (lowestDead n live) n
-mayChange n live (withdrawn p) = isLive n live p
+mayChange n live taken = eqb (length live) n && ltb (lowestDead n live) n
+mayChange n live (withdrawn p) = eqb (length live) n && isLive n live p
 mayChange n live refused = true
 
 -- The live bytes after it.

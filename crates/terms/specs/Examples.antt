@@ -18,12 +18,13 @@ use Rattle.terms.specs.declared.Listing.{Listing}
 use Rattle.terms.specs.declared.Screening.{Screening}
 use Rattle.terms.specs.declared.Placing.{Placing}
 use Rattle.terms.specs.declared.Explaining.{Explaining}
+use Rattle.terms.specs.declared.Taking.{Taking}
 use Rattle.terms.specs.declared.Reason.{Reason}
 use Rattle.terms.specs.declared.Reason.the-variants.{InsideWithBranch, InsideByItself, OutsideWithBranch, OutsideByItself}
 use Rattle.terms.specs.Tests.{count, every, keep, allTo, anyTo, lowestTo, rising}
 use Rattle.terms.specs.Lent.{Stock, Order, Faces, Regions, stock, orderOf, faces, regions}
 use Rattle.terms.specs.Live.{isLive, liveCount, lowestDead}
-use Rattle.terms.specs.LivePoints.{membersInRange, takenPoints}
+use Rattle.terms.specs.LivePoints.{membersInRange}
 use Rattle.terms.specs.Changes.{Change, taken, withdrawn, refused, mayChangeAll, changedAll}
 use Rattle.terms.specs.Points.{coord, pointOf, slotsOf}
 use Rattle.terms.specs.Before.{before}
@@ -50,6 +51,8 @@ use Rattle.terms.specs.Explain.{ownReason, branchReason, reasonIn, reaso
 use Rattle.terms.specs.ExplainCall.{explainCode, explainAnswer}
 use Rattle.terms.specs.Mirror.{mirror, withFace}
 use Rattle.terms.specs.PlaceCall.{placeCode, placeAnswer}
+use Rattle.terms.specs.TakeCall.{takeCode, takeAnswer, takePoints, takeLive}
+use Rattle.terms.specs.WithdrawCall.{withdrawAnswer, withdrawLive}
 
 -- A negative number as one writes it.
 abbrev minus : ℕ → ℤ
@@ -99,7 +102,8 @@ pub data Row : Type 0 where
   makes : Reading → (place : List ℤ) (answer : Making) (after : List ℤ) → Row
   lives : (n : ℕ) (live numbers : List ℕ) (many lowest : ℕ) → Row
   inRanges : (k n : ℕ) (points : List ℤ) (live : List ℕ) → Bool → Row
-  takes : (k n : ℕ) (points : List ℤ) (live : List ℕ) (point after : List ℤ) → Row
+  takes : (k n : ℕ) (points : List ℤ) (live : List ℕ) (point : List ℤ) → Taking → (pointsAfter : List ℤ) (liveAfter : List ℕ) → Row
+  withdraws : (n number : ℕ) (live : List ℕ) (answer : ℕ) (after : List ℕ) → Row
   changes : (n : ℕ) (live : List ℕ) → List Change → (may : Bool) (after : List ℕ) → Row
 
 -- What it is for a row to hold: the call's definition gives what the row says.
@@ -126,7 +130,9 @@ Holds (makes r place answer after) = (pointAnswer r place ≡ answer) × (pointA
 Holds (lives n live numbers many lowest) =
     (members (isLive n live) n ≡ numbers) × (liveCount n live ≡ many) × (lowestDead n live ≡ lowest)
 Holds (inRanges k n points live answer) = membersInRange k (coord k points) (isLive n live) n ≡ answer
-Holds (takes k n points live point after) = takenPoints k n points live point ≡ after
+Holds (takes k n points live point answer pointsAfter liveAfter) =
+    (takeAnswer k n points live point ≡ answer) × (takePoints k n points live point ≡ pointsAfter) × (takeLive k n points live point ≡ liveAfter)
+Holds (withdraws n number live answer after) = (withdrawAnswer n number live ≡ answer) × (withdrawLive n number live ≡ after)
 Holds (changes n live cs may after) = (mayChangeAll n live cs ≡ may) × (changedAll n live cs ≡ after)
 
 -- Every row of a table holds.
@@ -180,6 +186,18 @@ measures inside face margin = record { code = 0; inside = inside; measured = 1; 
 -- The answer of a test of one point that is refused.
 abbrev untested : ℕ → Placing
 untested c = record { code = c; inside = 0; measured = 0; face = 0; margin = pos 0 }
+
+-- The answer of a take that is done.
+abbrev takesNumber : ℕ → Taking
+takesNumber number = record { code = 0; number = number }
+
+-- A take that is refused: the points and the live bytes stay.
+abbrev refusesTake : ℕ → ℕ → List ℤ → List ℕ → List ℤ → ℕ → Row
+refusesTake k n points live point c = takes k n points live point (record { code = c; number = 0 }) points live
+
+-- A withdrawal that is refused: the live bytes stay.
+abbrev refusesWithdrawal : ℕ → ℕ → List ℕ → ℕ → Row
+refusesWithdrawal n number live c = withdraws n number live c live
 
 -- Faces that are all closed.
 abbrev closed : ℕ → List ℤ → List ℤ → Faces
@@ -1414,8 +1432,6 @@ regions-refuse-missing-mark = refusesRegions pair (regions 2 (1 ∷ 1 ∷ []) (p
 abbrev pub regions-refuse-order : Row
 regions-refuse-order = refusesRegions pairSwapped sameFaceTwice (replicate 5 7) (replicate 7 8) 9
 
--- ---- the statement
-
 -- ---- live bytes
 -- Numbers 1 and 4 of six are dead.
 abbrev pub live-some : Row
@@ -1443,10 +1459,105 @@ range-of-the-dead = inRanges 2 2 (pos 7 ∷ minus 32768 ∷ pos 32768 ∷ pos 5 
 abbrev pub range-of-the-live : Row
 range-of-the-live = inRanges 2 2 (pos 7 ∷ minus 32768 ∷ pos 32768 ∷ pos 5 ∷ []) (0 ∷ 1 ∷ []) false
 
--- The point is written at number 1, the lowest dead of three.
+-- The point is written at number 1, the lowest dead of three, and its byte is set. Number 2 stays dead, with its coordinates.
 abbrev pub take-writes : Row
 take-writes =
-    takes 2 3 (pos 1 ∷ pos 2 ∷ pos 3 ∷ pos 4 ∷ pos 5 ∷ pos 6 ∷ []) (1 ∷ 0 ∷ 0 ∷ []) (pos 8 ∷ pos 9 ∷ []) (pos 1 ∷ pos 2 ∷ pos 8 ∷ pos 9 ∷ pos 5 ∷ pos 6 ∷ [])
+    takes 2 3 (pos 1 ∷ pos 2 ∷ pos 3 ∷ pos 4 ∷ pos 5 ∷ pos 6 ∷ []) (1 ∷ 0 ∷ 0 ∷ []) (pos 8 ∷ pos 9 ∷ [])
+    (takesNumber 1) (pos 1 ∷ pos 2 ∷ pos 8 ∷ pos 9 ∷ pos 5 ∷ pos 6 ∷ []) (1 ∷ 1 ∷ 0 ∷ [])
+
+-- Number 2 of three is the only dead one; the least and the greatest coordinate pass.
+abbrev pub take-last : Row
+take-last =
+    takes 2 3 (pos 1 ∷ pos 2 ∷ pos 3 ∷ pos 4 ∷ pos 5 ∷ pos 6 ∷ []) (1 ∷ 1 ∷ 0 ∷ []) (minus 32768 ∷ pos 32767 ∷ [])
+    (takesNumber 2) (pos 1 ∷ pos 2 ∷ pos 3 ∷ pos 4 ∷ minus 32768 ∷ pos 32767 ∷ []) (1 ∷ 1 ∷ 1 ∷ [])
+
+-- A dead number's coordinate may be any; the other dead number's stays.
+abbrev pub take-passes-over-the-dead : Row
+take-passes-over-the-dead =
+    takes 1 3 (pos 40000 ∷ pos 7 ∷ minus 40000 ∷ []) (0 ∷ 1 ∷ 0 ∷ []) (pos 3 ∷ []) (takesNumber 0) (pos 3 ∷ pos 7 ∷ minus 40000 ∷ []) (1 ∷ 1 ∷ 0 ∷ [])
+
+-- Four dimensions pass, five are 1 before 2, and so is none.
+abbrev pub take-four-dimensions : Row
+take-four-dimensions =
+    takes 4 1 (pos 1 ∷ pos 2 ∷ pos 3 ∷ pos 4 ∷ []) (0 ∷ []) (pos 5 ∷ pos 6 ∷ pos 7 ∷ pos 8 ∷ []) (takesNumber 0) (pos 5 ∷ pos 6 ∷ pos 7 ∷ pos 8 ∷ []) (1 ∷ [])
+
+abbrev pub take-refuses-five-dimensions : Row
+take-refuses-five-dimensions = refusesTake 5 65536 [] [] [] 1
+
+abbrev pub take-refuses-no-dimension : Row
+take-refuses-no-dimension = refusesTake 0 1 [] (0 ∷ []) [] 1
+
+-- 2 before 3.
+abbrev pub take-refuses-n : Row
+take-refuses-n = refusesTake 1 65536 [] [] (pos 3 ∷ []) 2
+
+-- 3 before 15: for points that are too few, for a point that is too short, and for one that is too long.
+abbrev pub take-refuses-points : Row
+take-refuses-points = refusesTake 1 2 (pos 0 ∷ []) (2 ∷ 0 ∷ []) (pos 3 ∷ []) 3
+
+abbrev pub take-refuses-short-point : Row
+take-refuses-short-point = refusesTake 1 2 (pos 0 ∷ pos 10 ∷ []) (2 ∷ 0 ∷ []) [] 3
+
+abbrev pub take-refuses-long-point : Row
+take-refuses-long-point = refusesTake 1 2 (pos 0 ∷ pos 10 ∷ []) (1 ∷ []) (pos 3 ∷ pos 4 ∷ []) 3
+
+-- 15 before 5: for bytes that are too few or too many, and for a byte of 2; the live number's coordinate or the point's is out of range.
+abbrev pub take-refuses-few-bytes : Row
+take-refuses-few-bytes = refusesTake 1 2 (pos 32768 ∷ pos 10 ∷ []) (1 ∷ []) (pos 3 ∷ []) 15
+
+abbrev pub take-refuses-many-bytes : Row
+take-refuses-many-bytes = refusesTake 1 2 (pos 0 ∷ pos 10 ∷ []) (1 ∷ 0 ∷ 0 ∷ []) (pos 32768 ∷ []) 15
+
+abbrev pub take-refuses-byte-before-coordinate : Row
+take-refuses-byte-before-coordinate = refusesTake 1 2 (pos 32768 ∷ pos 10 ∷ []) (1 ∷ 2 ∷ []) (pos 3 ∷ []) 15
+
+abbrev pub take-refuses-byte-before-point : Row
+take-refuses-byte-before-point = refusesTake 1 2 (pos 0 ∷ pos 10 ∷ []) (0 ∷ 2 ∷ []) (pos 32768 ∷ []) 15
+
+-- 5 before 16: for a live number's coordinate, and for the point's.
+abbrev pub take-refuses-coordinate : Row
+take-refuses-coordinate = refusesTake 1 2 (pos 0 ∷ minus 32769 ∷ []) (1 ∷ 1 ∷ []) (pos 3 ∷ []) 5
+
+abbrev pub take-refuses-point : Row
+take-refuses-point = refusesTake 1 2 (pos 0 ∷ pos 10 ∷ []) (1 ∷ 1 ∷ []) (pos 32768 ∷ []) 5
+
+-- 16 where none is dead, and where there is no number.
+abbrev pub take-refuses-full : Row
+take-refuses-full = refusesTake 1 2 (pos 0 ∷ pos 10 ∷ []) (1 ∷ 1 ∷ []) (pos 3 ∷ []) 16
+
+abbrev pub take-refuses-no-number : Row
+take-refuses-no-number = refusesTake 1 0 [] [] (pos 3 ∷ []) 16
+
+-- Number 1's byte is cleared.
+abbrev pub withdraw-clears : Row
+withdraw-clears = withdraws 3 1 (1 ∷ 1 ∷ 0 ∷ []) 0 (1 ∷ 0 ∷ 0 ∷ [])
+
+abbrev pub withdraw-last : Row
+withdraw-last = withdraws 1 0 (1 ∷ []) 0 (0 ∷ [])
+
+-- 2 before 15.
+abbrev pub withdraw-refuses-n : Row
+withdraw-refuses-n = refusesWithdrawal 65536 0 [] 2
+
+-- 15 before 17: for bytes that are too few or too many, and for a byte of 2, were it another number's.
+abbrev pub withdraw-refuses-few-bytes : Row
+withdraw-refuses-few-bytes = refusesWithdrawal 2 1 (1 ∷ []) 15
+
+abbrev pub withdraw-refuses-many-bytes : Row
+withdraw-refuses-many-bytes = refusesWithdrawal 2 2 (1 ∷ 1 ∷ 1 ∷ []) 15
+
+abbrev pub withdraw-refuses-byte : Row
+withdraw-refuses-byte = refusesWithdrawal 2 0 (0 ∷ 2 ∷ []) 15
+
+-- 17 for a dead number, for one that is not below n, and where there is none.
+abbrev pub withdraw-refuses-dead : Row
+withdraw-refuses-dead = refusesWithdrawal 2 1 (1 ∷ 0 ∷ []) 17
+
+abbrev pub withdraw-refuses-number : Row
+withdraw-refuses-number = refusesWithdrawal 2 2 (1 ∷ 1 ∷ []) 17
+
+abbrev pub withdraw-refuses-number-of-none : Row
+withdraw-refuses-number-of-none = refusesWithdrawal 0 0 [] 17
 
 -- Freed room is used first.
 abbrev pub change-freed-first : Row
@@ -1458,6 +1569,8 @@ change-no-room = changes 2 (1 ∷ 0 ∷ []) (taken ∷ taken ∷ []) false (1 �
 
 abbrev pub change-withdrawn-twice : Row
 change-withdrawn-twice = changes 2 (1 ∷ 1 ∷ []) (withdrawn 1 ∷ withdrawn 1 ∷ []) false (1 ∷ 0 ∷ [])
+
+-- ---- the statement
 
 -- The table.
 abbrev pub table : List Row
@@ -1675,6 +1788,32 @@ table =
     ∷ range-of-the-dead
     ∷ range-of-the-live
     ∷ take-writes
+    ∷ take-last
+    ∷ take-passes-over-the-dead
+    ∷ take-four-dimensions
+    ∷ take-refuses-five-dimensions
+    ∷ take-refuses-no-dimension
+    ∷ take-refuses-n
+    ∷ take-refuses-points
+    ∷ take-refuses-short-point
+    ∷ take-refuses-long-point
+    ∷ take-refuses-few-bytes
+    ∷ take-refuses-many-bytes
+    ∷ take-refuses-byte-before-coordinate
+    ∷ take-refuses-byte-before-point
+    ∷ take-refuses-coordinate
+    ∷ take-refuses-point
+    ∷ take-refuses-full
+    ∷ take-refuses-no-number
+    ∷ withdraw-clears
+    ∷ withdraw-last
+    ∷ withdraw-refuses-n
+    ∷ withdraw-refuses-few-bytes
+    ∷ withdraw-refuses-many-bytes
+    ∷ withdraw-refuses-byte
+    ∷ withdraw-refuses-dead
+    ∷ withdraw-refuses-number
+    ∷ withdraw-refuses-number-of-none
     ∷ change-freed-first
     ∷ change-no-room
     ∷ change-withdrawn-twice
@@ -1770,7 +1909,7 @@ left-below = record {
 
 -- Every row holds of the calls as they are defined.
 pub examples-hold : All table
-unfolding lesser greater sumTo totalTo count every keep allTo anyTo rising before treeRun eachOnce isTree leastFrom greatestFrom rootBox boxes aboveAt inside isSettled isOpen openSlots visits digitsWithin digits S isSquare firstOf buildAnswer checkAnswer listCode listAnswer listAfter endToEnd listRegionsCode listsAfter countsAfter insideSlots upToFirst screenVisits leastTo lowestLeast screenCode screenAnswer placeCode placeAnswer ofBits inRange coordinateOf gives pointCode pointAnswer pointAfter lowestTo ownReason branchReason reasonIn reasonOf explainCode explainAnswer mayChangeAll changedAll
+unfolding lesser greater sumTo totalTo count every keep allTo anyTo rising before treeRun eachOnce isTree leastFrom greatestFrom rootBox boxes aboveAt inside isSettled isOpen openSlots visits digitsWithin digits S isSquare firstOf buildAnswer checkAnswer listCode listAnswer listAfter endToEnd listRegionsCode listsAfter countsAfter insideSlots upToFirst screenVisits leastTo lowestLeast screenCode screenAnswer placeCode placeAnswer ofBits inRange coordinateOf gives pointCode pointAnswer pointAfter lowestTo ownReason branchReason reasonIn reasonOf explainCode explainAnswer mayChangeAll changedAll takeCode takeAnswer takePoints takeLive withdrawAnswer withdrawLive
 examples-hold =
     example-1-build by built refl refl refl refl
     also example-1-check by refl
@@ -1984,7 +2123,33 @@ examples-hold =
     also live-below-n by (refl, refl, refl)
     also range-of-the-dead by refl
     also range-of-the-live by refl
-    also take-writes by refl
+    also take-writes by (refl, refl, refl)
+    also take-last by (refl, refl, refl)
+    also take-passes-over-the-dead by (refl, refl, refl)
+    also take-four-dimensions by (refl, refl, refl)
+    also take-refuses-five-dimensions by (refl, refl, refl)
+    also take-refuses-no-dimension by (refl, refl, refl)
+    also take-refuses-n by (refl, refl, refl)
+    also take-refuses-points by (refl, refl, refl)
+    also take-refuses-short-point by (refl, refl, refl)
+    also take-refuses-long-point by (refl, refl, refl)
+    also take-refuses-few-bytes by (refl, refl, refl)
+    also take-refuses-many-bytes by (refl, refl, refl)
+    also take-refuses-byte-before-coordinate by (refl, refl, refl)
+    also take-refuses-byte-before-point by (refl, refl, refl)
+    also take-refuses-coordinate by (refl, refl, refl)
+    also take-refuses-point by (refl, refl, refl)
+    also take-refuses-full by (refl, refl, refl)
+    also take-refuses-no-number by (refl, refl, refl)
+    also withdraw-clears by (refl, refl)
+    also withdraw-last by (refl, refl)
+    also withdraw-refuses-n by (refl, refl)
+    also withdraw-refuses-few-bytes by (refl, refl)
+    also withdraw-refuses-many-bytes by (refl, refl)
+    also withdraw-refuses-byte by (refl, refl)
+    also withdraw-refuses-dead by (refl, refl)
+    also withdraw-refuses-number by (refl, refl)
+    also withdraw-refuses-number-of-none by (refl, refl)
     also change-freed-first by (refl, refl)
     also change-no-room by (refl, refl)
     also change-withdrawn-twice by (refl, refl)

@@ -31,6 +31,8 @@ pub mod ScreenCall
 pub mod ExplainCall
 pub mod PlaceCall
 pub mod PointCall
+pub mod TakeCall
+pub mod WithdrawCall
 pub mod Examples
 pub mod Unmarked
 pub mod Mirror

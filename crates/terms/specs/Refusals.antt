@@ -9,9 +9,11 @@ use lib.Dec.{leb, ltb, eqb}
 use Rattle.terms.specs.declared.Reading.{Reading}
 use Rattle.terms.specs.Tests.{every}
 use Rattle.terms.specs.Lent.{Stock, Order, Faces}
-use Rattle.terms.specs.Points.{isCoordinate, belongsTo}
+use Rattle.terms.specs.Live.{isLiveByte, isLive}
+use Rattle.terms.specs.Points.{coord, isCoordinate, belongsTo}
 use Rattle.terms.specs.Region.{isComponent, isOffset, isMark}
 use Rattle.terms.specs.Tree.{isShelf}
+use Rattle.terms.specs.LivePoints.{membersInRange}
 use Rattle.terms.specs.Reading.{allInRange}
 
 -- A number with the test for which it is given.
@@ -47,6 +49,10 @@ roomRefusals places room = record { number = 4; holds = ltb room places } ∷ []
 -- 5: a coordinate is out of range.
 abbrev pub coordinateRefusals : List ℤ → List Refusal
 coordinateRefusals points = record { number = 5; holds = not (every isCoordinate points) } ∷ []
+
+-- 5: a live number's coordinate is out of range. Dead ones are passed over.
+abbrev pub liveCoordinateRefusals : ℕ → ℕ → List ℤ → List ℕ → List Refusal
+liveCoordinateRefusals k n points live = record { number = 5; holds = not (membersInRange k (coord k points) (isLive n live) n) } ∷ []
 
 -- A region has at most 32 faces.
 abbrev pub isFaceCount : ℕ → Bool
@@ -90,6 +96,18 @@ numberRefusals s p = record { number = 13; holds = not (belongsTo s p) } ∷ []
 abbrev pub regionCountRefusals : ℕ → List ℕ → List Refusal
 regionCountRefusals regions faceCounts =
     record { number = 14; holds = not (leb 1 regions && leb regions 64) } ∷ record { number = 14; holds = notLong regions faceCounts } ∷ []
+
+-- 15: the live bytes are not n, or one is neither 0 nor 1.
+abbrev pub liveRefusals : ℕ → List ℕ → List Refusal
+liveRefusals n live = record { number = 15; holds = notLong n live } ∷ record { number = 15; holds = not (every isLiveByte live) } ∷ []
+
+-- 16: none is dead: v, the number of live ones, is n.
+abbrev pub fullRefusals : ℕ → ℕ → List Refusal
+fullRefusals n v = record { number = 16; holds = eqb v n } ∷ []
+
+-- 17: number p is dead, or not below n.
+abbrev pub deadRefusals : ℕ → ℕ → List ℕ → List Refusal
+deadRefusals n p live = record { number = 17; holds = not (isLive n live p) } ∷ []
 
 -- The stock's shape: 1, 2 and 3.
 abbrev pub stockRefusals : Stock → List Refusal

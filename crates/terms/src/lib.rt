@@ -90,3 +90,10 @@ pub struct Explaining {
     pub slot: u16,
     pub margin: i64,
 }
+
+// What the take call answers: the number taken. A refusal has its number and 0.
+#[repr(C)]
+pub struct Taking {
+    pub code: u32,
+    pub number: u32,
+}

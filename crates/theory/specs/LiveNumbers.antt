@@ -8,8 +8,8 @@ use Prim.Native.Nat.{ℕ, _+_, _<_}
 use native.Mathlib.Omega.{arith}
 use lib.ListN.{length, getD, set, length-set}
 use lib.Seq.{getD-set-same, getD-set-other}
-use lib.Dec.{ltb}
-use borrow.Author.Tests.{ltb-true, lt-ltb}
+use lib.Dec.{eqb, ltb}
+use borrow.Author.Tests.{eqb-true, ltb-true, lt-ltb}
 use Rattle.whole.specs.IndexedTotal.{total-same}
 use Rattle.terms.specs.Tests.{bit, count, every}
 use Rattle.terms.specs.Points.{below}
@@ -95,28 +95,22 @@ module _ (n : ℕ) (live : List ℕ) where
       omega (arith, stored-count size p (live-under n live p e) 0)
 
 -- ---- a sequence of takes and withdrawals
--- One of them keeps how many bytes there are.
-pub changed-length : (n : ℕ) (live : List ℕ) (c : Change) → length (changedLive n live c) ≡ length live
-changed-length n live taken = length-set live (lowestDead n live) 1
-changed-length n live (withdrawn p) = length-set live p 0
-changed-length n live refused = refl
-
 -- What one of them makes of the total.
-pub changed-total : (n : ℕ) (live : List ℕ) (c : Change) → length live ≡ n → mayChange n live c ≡ true
+changed-total : (n : ℕ) (live : List ℕ) (c : Change) → mayChange n live c ≡ true
     → liveCount n (changedLive n live c) + bit (isWithdrawn c) ≡ liveCount n live + bit (isTaken c)
-changed-total n live taken size may = omega (arith, taken-count n live size (ltb-true (lowestDead n live) n may))
-changed-total n live (withdrawn p) size may = omega (arith, withdrawn-count n live size p may)
-changed-total n live refused size may = refl
+changed-total n live taken may =
+    let p = and-true (eqb (length live) n) may in
+    omega (arith, taken-count n live (eqb-true (length live) n (p .0)) (ltb-true (lowestDead n live) n (p .1)))
+changed-total n live (withdrawn p) may =
+    let q = and-true (eqb (length live) n) may in
+    omega (arith, withdrawn-count n live (eqb-true (length live) n (q .0)) p (q .1))
+changed-total n live refused may = refl
 
 -- "The total live after any sequence of these two calls is the starting total plus takes done minus withdrawals done."
-pub changes-total : (n : ℕ) (live : List ℕ) (cs : List Change) → length live ≡ n → mayChangeAll n live cs ≡ true
+pub changes-total : (n : ℕ) (live : List ℕ) (cs : List Change) → mayChangeAll n live cs ≡ true
     → liveCount n (changedAll n live cs) + count isWithdrawn cs ≡ liveCount n live + count isTaken cs
 unfolding mayChangeAll changedAll count
-changes-total n live [] size may = refl
-changes-total n live (c ∷ cs) size may =
+changes-total n live [] may = refl
+changes-total n live (c ∷ cs) may =
     let p = and-true (mayChange n live c) may in
-    omega (
-      arith,
-      changed-total n live c size (p .0),
-      changes-total n (changedLive n live c) cs (changed-length n live c ∙ size) (p .1),
-    )
+    omega (arith, changed-total n live c (p .0), changes-total n (changedLive n live c) cs (p .1))
