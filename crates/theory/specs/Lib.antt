@@ -63,4 +63,7 @@ pub mod RootBoxOfSame
 pub mod Floors
 pub mod Values
 pub mod NeverRefused
+pub mod MembersAlike
 pub mod PointCall
+pub mod TakeCall
+pub mod WithdrawCall

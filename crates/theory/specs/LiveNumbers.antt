@@ -1,10 +1,11 @@
 -- The live numbers: only numbers below n are live, v of them, and with all bytes 1 they are the numbers below n. A take makes one more of them and a
 -- withdrawal one fewer, so that the total after any sequence of the two is told by how many of each were done.
 use mathlib.Core.Path.{_≡_, refl, sym, ap, _∙_}
-use mathlib.Core.Logic.{_≢_}
+use mathlib.Core.Logic.{_≢_, _⊎_, inl, inr}
 use mathlib.Core.Bool.{true, false, not}
 use mathlib.Core.List.{List, [], _∷_}
-use Prim.Native.Nat.{ℕ, _+_, _<_}
+use Prim.Native.Nat.{ℕ, _+_, _≤_, _<_}
+use native.Mathlib.Decide.{decLt}
 use native.Mathlib.Omega.{arith}
 use lib.ListN.{length, getD, set, length-set}
 use lib.Seq.{getD-set-same, getD-set-other}
@@ -15,11 +16,11 @@ use Rattle.terms.specs.Tests.{bit, count, every}
 use Rattle.terms.specs.Points.{below}
 use Rattle.terms.specs.Live.{isSet, isLive, liveCount, lowestDead, takenLive, withdrawnLive}
 use Rattle.terms.specs.Changes.{Change, taken, withdrawn, refused, mayChange, changedLive, mayChangeAll, changedAll, isTaken, isWithdrawn}
-use Rattle.theory.specs.Flags.{and-true, not-true, not-false, false-not}
+use Rattle.theory.specs.Flags.{clash, and-true, not-true, not-false, false-not}
 use Rattle.theory.specs.Counting.{every-at, count-set, count-places}
 use Rattle.theory.specs.RisingNumbers.{count-to, all-counted, counted-all}
 use Rattle.theory.specs.EachNumberOnce.{BelongBelow, full-below}
-use Rattle.theory.specs.LowestThatPasses.{lowest-stops, lowest-none, none-lowest}
+use Rattle.theory.specs.LowestThatPasses.{lowest-stops, lowest-none, none-lowest, lowest-either}
 
 module _ (n : ℕ) (live : List ℕ) where
   -- Only numbers below n are live.
@@ -51,6 +52,13 @@ module _ (n : ℕ) (live : List ℕ) where
 
   pub full-none-dead : liveCount n live ≡ n → lowestDead n live ≡ n
   full-none-dead full = none-lowest n (λ q. not (isLive n live q)) (λ p l. false-not (counted-all (isLive n live) n full p l))
+
+  pub some-dead : liveCount n live ≢ n → lowestDead n live < n
+  some-dead few = go (lowest-either n (λ q. not (isLive n live q)))
+    where
+      go : (lowestDead n live < n) ⊎ (lowestDead n live ≡ n) → lowestDead n live < n
+      go (inl l) = l
+      go (inr e) = absurd (few (none-dead e))
 
   -- The lowest dead number is dead, and those before it are live.
   pub lowest-dead : lowestDead n live < n → isLive n live (lowestDead n live) ≡ false
@@ -93,6 +101,14 @@ module _ (n : ℕ) (live : List ℕ) where
   withdrawn-count size p e =
       let was = ap bit e in
       omega (arith, stored-count size p (live-under n live p e) 0)
+
+  -- "so freed room is used first": once number p was withdrawn, the lowest dead number is at most p.
+  pub freed-first : length live ≡ n → (p : ℕ) → p < n → lowestDead n (withdrawnLive p live) ≤ p
+  freed-first size p l = go (decLt p (lowestDead n (withdrawnLive p live)))
+    where
+      go : Dec (p < lowestDead n (withdrawnLive p live)) → lowestDead n (withdrawnLive p live) ≤ p
+      go (yes m) = clash (before-lowest-dead n (withdrawnLive p live) p m) (clear-live size p l)
+      go (no m) = omega arith
 
 -- ---- a sequence of takes and withdrawals
 -- What one of them makes of the total.

@@ -1,17 +1,20 @@
 -- What was lent, where a group of refusals was passed: what the functions below the calls require, group by group.
 use mathlib.Core.Path.{_≡_}
+use mathlib.Core.Logic.{_≢_}
 use mathlib.Core.Bool.{true, _&&_}
 use mathlib.Core.List.{List, _++_}
 use Prim.Native.Nat.{ℕ, _*_, _≤_, _<_}
 use lib.ListN.{length, getD}
 use lib.IntN.{ℤ, pos, negsuc}
 use lib.Dec.{leb, eqb}
-use borrow.Author.Tests.{leb-true, ltb-false, le-ltb, eqb-true, eq-eqb}
+use borrow.Author.Tests.{leb-true, ltb-false, le-ltb, eqb-true, eqb-false, eq-eqb}
 use Rattle.terms.specs.Tests.{every}
 use Rattle.terms.specs.Lent.{Stock, Order, Faces}
-use Rattle.terms.specs.Points.{isCoordinate, belongsTo}
+use Rattle.terms.specs.Live.{isLiveByte, isLive}
+use Rattle.terms.specs.Points.{coord, isCoordinate, belongsTo}
 use Rattle.terms.specs.Region.{isComponent, isOffset, isMark}
 use Rattle.terms.specs.Tree.{isShelf}
+use Rattle.terms.specs.LivePoints.{membersInRange}
 use Rattle.terms.specs.Refusals.{
   Refusal,
   dimensionRefusals,
@@ -19,6 +22,7 @@ use Rattle.terms.specs.Refusals.{
   lengthRefusals,
   roomRefusals,
   coordinateRefusals,
+  liveCoordinateRefusals,
   faceCountRefusals,
   faceCountsRefusals,
   faceLengthRefusals,
@@ -27,6 +31,9 @@ use Rattle.terms.specs.Refusals.{
   treeRefusals,
   numberRefusals,
   regionCountRefusals,
+  liveRefusals,
+  fullRefusals,
+  deadRefusals,
   stockRefusals,
   faceSliceRefusals,
   faceRefusals,
@@ -191,3 +198,24 @@ tree-passed s o w = not-false (isShelf s o) (w .fails 0)
 
 pub number-passed : (s : Stock) (p : ℕ) → Passed (numberRefusals s p) → belongsTo s p ≡ true
 number-passed s p w = not-false (belongsTo s p) (w .fails 0)
+
+-- A live byte for each number, each 0 or 1.
+pub record LiveTested (n : ℕ) (live : List ℕ) : Type 0 where
+  pub bytes : length live ≡ n
+  pub each-byte : every isLiveByte live ≡ true
+
+pub live-passed : (n : ℕ) (live : List ℕ) → Passed (liveRefusals n live) → LiveTested n live
+live-passed n live w = record {
+  bytes = eqb-true (length live) n (not-false (eqb (length live) n) (w .fails 0));
+  each-byte = not-false (every isLiveByte live) (w .fails 1);
+}
+
+pub live-coordinates-passed : (k n : ℕ) (points : List ℤ) (live : List ℕ) → Passed (liveCoordinateRefusals k n points live)
+    → membersInRange k (coord k points) (isLive n live) n ≡ true
+live-coordinates-passed k n points live w = not-false (membersInRange k (coord k points) (isLive n live) n) (w .fails 0)
+
+pub full-passed : (n v : ℕ) → Passed (fullRefusals n v) → v ≢ n
+full-passed n v w = eqb-false v n (w .fails 0)
+
+pub dead-passed : (n p : ℕ) (live : List ℕ) → Passed (deadRefusals n p live) → isLive n live p ≡ true
+dead-passed n p live w = not-false (isLive n live p) (w .fails 0)

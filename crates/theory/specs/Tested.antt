@@ -36,6 +36,10 @@ pub record TestedPoints (s : Stock) : Type 0 where
 pub coordinate-place : (k n : ℕ) (points : List ℤ) → length points ≡ k * n → {p d : ℕ} → p < n → d < k → p * k + d < length points
 coordinate-place k n points size l m = omega (arith, mul-le-mul-right k l, mul-comm k n)
 
+-- Point p has its k places.
+pub point-places : (k n : ℕ) (points : List ℤ) → length points ≡ k * n → {p : ℕ} → p < n → p * k + k ≤ length points
+point-places k n points size l = omega (arith, mul-le-mul-right k l, mul-comm k n)
+
 -- The faces, whose 6, 7, 8 and 11 were tested.
 pub record TestedFaces (k : ℕ) (f : Faces) : Type 0 where
   pub many : f .h ≤ 32
