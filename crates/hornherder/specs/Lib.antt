@@ -1,6 +1,6 @@
 pub mod Ranges
-pub mod Live
 pub mod First
+pub mod Live
 pub mod BuildOutcome
 pub mod BuildPromises
 pub mod CheckOutcome
@@ -17,4 +17,6 @@ pub mod PlaceOutcome
 pub mod PlacePromises
 pub mod PointOutcome
 pub mod PointPromises
+pub mod TakeOutcome
+pub mod WithdrawOutcome
 pub mod BinPromises

@@ -2,8 +2,8 @@
 use mathlib.Core.Path.{_≡_, sym, ap, _∙_}
 use mathlib.Core.Bool.{Bool}
 use mathlib.Core.List.{List}
-use Prim.Native.Nat.{ℕ, suc, _+_, _*_, _≤_, _<_}
-use native.Mathlib.Nat.{mul-le-mul, mul-comm}
+use Prim.Native.Nat.{ℕ, _+_, _*_, _≤_, _<_}
+use native.Mathlib.Nat.{mul-le-mul}
 use native.Mathlib.Omega.{arith}
 use lib.ListN.{length, getD, take, drop, length-take, length-drop}
 use lib.Seq.{getD-take, getD-drop, take-length}
@@ -12,16 +12,24 @@ use Rattle.terms.specs.Tests.{bit, count, every}
 use Rattle.terms.specs.Points.{coord, isCoordinate}
 use Rattle.terms.specs.Live.{isLiveByte, isSet, liveCount}
 use Rattle.terms.specs.LivePoints.{pointInRange}
+use Rattle.terms.specs.Refusals.{liveRefusals}
 use Rattle.theory.specs.Flags.{same-test}
+use Rattle.theory.specs.Tested.{point-places}
 use Rattle.theory.specs.AllAndAny.{all-each, each-all}
 use Rattle.theory.specs.Counting.{every-at, at-every, count-next}
 use Rattle.theory.specs.LiveNumbers.{live-bytes}
 use Rattle.hornherder.specs.Ranges.{Through, through-all}
+use Rattle.hornherder.specs.First.{First}
 
 -- Whether each live byte is 0 or 1, and how many numbers are live.
 pub record Counted (n : ℕ) (live : List ℕ) (all : Bool) (many : ℕ) : Type 0 where
   pub all-bytes : all ≡ every isLiveByte live
   pub live-many : many ≡ liveCount n live
+
+-- What the test of the live bytes finds: 15 or 0, and beside 0 how many numbers are live.
+pub record LiveFound (n : ℕ) (live : List ℕ) (code many : ℕ) : Type 0 where
+  pub first : First (liveRefusals n live) code
+  pub live-many : code ≡ 0 → many ≡ liveCount n live
 
 -- k coordinates are lent for each of the n numbers, and a live byte.
 pub record LivePoints (k n : ℕ) (points : List ℤ) (live : List ℕ) : Type 0 where
@@ -57,9 +65,7 @@ points-few {k} {n} w =
 module _ {k n : ℕ} {points : List ℤ} {live : List ℕ} (w : LivePoints k n points live) {p : ℕ} (l : p < n) where
   -- Number p has its k coordinates.
   pub point-room : p * k + k ≤ length points
-  point-room =
-      let more : suc p * k ≤ n * k = mul-le-mul l (omega arith) in
-      omega (arith, w .size, mul-comm k n)
+  point-room = point-places k n points (w .size) l
 
   part-length : length (take k (drop (p * k) points)) ≡ k
   part-length = omega (arith, length-take k (drop (p * k) points), length-drop (p * k) points, point-room)

@@ -1,10 +1,13 @@
 // The refusal tests, a function for each group that returns its number where a test of it holds, or 0; and the groups that several calls make together: the
 // stock's shape, the faces' slices, and the faces.
+use crate::live::count_live;
+use crate::live::live_within;
 use crate::ranges::all_at_most;
 use crate::ranges::all_marks;
 use crate::ranges::all_within;
 use crate::ranges::all_within_wide;
 use arrange::check::check;
+ghost use mathlib.Core.Path.{_≡_};
 ghost use mathlib.Core.List.{List};
 ghost use Prim.Native.Nat.{ℕ, _≤_};
 ghost use lib.ListN.{length};
@@ -16,6 +19,7 @@ ghost use Rattle.terms.specs.Refusals.{
   lengthRefusals,
   roomRefusals,
   coordinateRefusals,
+  liveCoordinateRefusals,
   faceCountRefusals,
   faceCountsRefusals,
   faceLengthRefusals,
@@ -24,12 +28,15 @@ ghost use Rattle.terms.specs.Refusals.{
   treeRefusals,
   numberRefusals,
   regionCountRefusals,
+  fullRefusals,
+  deadRefusals,
   stockRefusals,
   faceSliceRefusals,
   faceRefusals,
 };
 ghost use Rattle.theory.specs.Tested.{TestedPoints};
 ghost use Rattle.hornherder.specs.First.{First};
+ghost use Rattle.hornherder.specs.Live.{LivePoints, LiveFound};
 
 // 1 where k is not 1 to 4.
 pub fn dimension_refusal(k: usize) -> u32
@@ -79,6 +86,17 @@ pub fn coordinate_refusal(points: &[i32]) -> u32
     ensures { λ r. ⌜ First (coordinateRefusals (now (points .entry))) r ⌝ }
 {
     if !all_within(points, -32768, 32767) {
+        return 5;
+    }
+    0
+}
+
+// 5 where a live number's coordinate is out of range.
+pub fn live_coordinate_refusal(k: usize, n: usize, points: &[i32], live: &[u8]) -> u32
+    requires { ⌜ LivePoints k n (now points) (now live) ⌝ }
+    ensures { λ r. ⌜ First (liveCoordinateRefusals k n (now (points .entry)) (now (live .entry))) r ⌝ }
+{
+    if !live_within(k, n, points, live) {
         return 5;
     }
     0
@@ -180,6 +198,56 @@ pub fn region_count_refusal(regions: usize, face_counts: &[u32]) -> u32
     }
     if face_counts.len() != regions {
         return 14;
+    }
+    0
+}
+
+// What the test of the live bytes finds: 15 or 0, and beside 0 how many numbers are live.
+pub struct LiveTest {
+    pub code: u32,
+    pub live: u32,
+}
+
+// 15 where the live bytes are not n, or one is neither 0 nor 1; else how many numbers are live, counted in the same pass.
+pub fn live_refusal(n: usize, live: &[u8]) -> LiveTest
+    requires { ⌜ n ≤ 65535 ⌝ }
+    ensures { λ r. ⌜ LiveFound n (now (live .entry)) (r .code) (r .live) ⌝ }
+{
+    if live.len() != n {
+        return LiveTest { code: 15, live: 0 };
+    }
+    let bytes = count_live(n, live);
+    if !bytes.all {
+        return LiveTest { code: 15, live: 0 };
+    }
+    LiveTest {
+        code: 0,
+        live: bytes.live,
+    }
+}
+
+// 16 where none is dead: so many are live as there are numbers.
+pub fn full_refusal(n: usize, live: u32) -> u32
+    ensures { λ r. ⌜ First (fullRefusals n live) r ⌝ }
+{
+    let many = live as usize;
+    if many == n {
+        return 16;
+    }
+    0
+}
+
+// 17 where the number is dead, or not below n.
+pub fn dead_refusal(n: usize, number: u32, live: &[u8]) -> u32
+    requires { ⌜ length (now live) ≡ n ⌝ }
+    ensures { λ r. ⌜ First (deadRefusals n number (now (live .entry))) r ⌝ }
+{
+    let p = number as usize;
+    if n <= p {
+        return 17;
+    }
+    if live[p] != 1 {
+        return 17;
     }
     0
 }
