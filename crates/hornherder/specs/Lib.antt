@@ -18,5 +18,8 @@ pub mod PlacePromises
 pub mod PointOutcome
 pub mod PointPromises
 pub mod TakeOutcome
+pub mod TakePromises
 pub mod WithdrawOutcome
+pub mod WithdrawPromises
+pub mod ChangesPromises
 pub mod BinPromises
