@@ -10,6 +10,13 @@ pub fn build(stock: &Stock, order: &mut [u32]) {
     arrange(&stock.points, stock.k, 0, order);
 }
 
+/// Arranges the live numbers of a shelf in the same way.
+pub fn build_live(stock: &Stock) -> Vec<u32> {
+    let mut order = stock.live_numbers();
+    arrange(&stock.points, stock.k, 0, &mut order);
+    order
+}
+
 /// Puts the node of the run in the middle, then arranges both sides on the next dimension.
 fn arrange(points: &[i32], k: usize, s: usize, run: &mut [u32]) {
     if run.len() < 2 {

@@ -4,23 +4,23 @@ use crate::region::{Joined, Region};
 use crate::stock::Stock;
 use hornherder::raw;
 
-pub use hornherder::raw::{Explaining, Listing, Making, Screening};
+pub use hornherder::raw::{take, withdraw, Explaining, Listing, Making, Screening};
 
 /// Arranges the shelf.
 pub fn build(stock: &Stock, order: &mut [u32]) -> u32 {
-    raw::build(stock.k, stock.n, &stock.points, order)
+    raw::build(stock.k, stock.n, &stock.points, &stock.live, order)
 }
 
 /// Says 0 where the order is the shelf's.
 pub fn check(stock: &Stock, order: &[u32]) -> u32 {
-    raw::check(stock.k, stock.n, &stock.points, order)
+    raw::check(stock.k, stock.n, &stock.points, &stock.live, order)
 }
 
 /// Lists the numbers inside and outside the region.
 #[rustfmt::skip]
 pub fn list(stock: &Stock, order: &[u32], region: &Region, list: &mut [u32]) -> Listing {
     let (normals, offsets, marks) = (&region.normals, &region.offsets, &region.marks);
-    raw::list(stock.k, stock.n, region.h, &stock.points, order, normals, offsets, marks, list)
+    raw::list(stock.k, stock.n, region.h, &stock.points, &stock.live, order, normals, offsets, marks, list)
 }
 
 /// Lists the numbers inside and outside each of several regions.
@@ -28,21 +28,21 @@ pub fn list(stock: &Stock, order: &[u32], region: &Region, list: &mut [u32]) -> 
 pub fn list_regions(stock: &Stock, order: &[u32], joined: &Joined, lists: &mut [u32], counts: &mut [u32]) -> u32 {
     let (face_counts, normals) = (&joined.face_counts, &joined.normals);
     let (offsets, marks) = (&joined.offsets, &joined.marks);
-    raw::list_regions(stock.k, stock.n, face_counts.len(), &stock.points, order, face_counts, normals, offsets, marks, lists, counts)
+    raw::list_regions(stock.k, stock.n, face_counts.len(), &stock.points, &stock.live, order, face_counts, normals, offsets, marks, lists, counts)
 }
 
 /// Finds the first number inside the region.
 #[rustfmt::skip]
 pub fn screen(stock: &Stock, order: &[u32], region: &Region) -> Screening {
     let (normals, offsets, marks) = (&region.normals, &region.offsets, &region.marks);
-    raw::screen(stock.k, stock.n, region.h, &stock.points, order, normals, offsets, marks)
+    raw::screen(stock.k, stock.n, region.h, &stock.points, &stock.live, order, normals, offsets, marks)
 }
 
 /// Says why a number is inside or outside the region.
 #[rustfmt::skip]
 pub fn explain(stock: &Stock, order: &[u32], region: &Region, number: u32) -> Explaining {
     let (normals, offsets, marks) = (&region.normals, &region.offsets, &region.marks);
-    raw::explain(stock.k, stock.n, region.h, number, &stock.points, order, normals, offsets, marks)
+    raw::explain(stock.k, stock.n, region.h, number, &stock.points, &stock.live, order, normals, offsets, marks)
 }
 
 /// Makes a point of a colour.

@@ -22,6 +22,9 @@ pub enum Call {
     Screen,
     Explain,
     Colours,
+    Changes,
+    HalfBuild,
+    HalfList,
 }
 
 /// A workload and the best time of each contender, in microseconds.
@@ -51,9 +54,11 @@ impl Measured {
     }
 
     /// The time of the contender of this name. A walk, or a way, is what its call takes beyond the check call; a region, or the walk alone,
-    /// what it takes beyond the check call and the root box.
+    /// what it takes beyond the check call and the root box. The root box is what a screen that finds the first slot takes beyond the check
+    /// call, and the walk less it what the list call takes beyond such a screen.
     pub fn time(&self, name: &str) -> f64 {
-        let beyond_check = |call: &str| (self.time(call) - self.time("check")).max(0.0);
+        let beyond = |call: &str, part: &str| (self.time(call) - self.time(part)).max(0.0);
+        let beyond_check = |call: &str| beyond(call, "check");
         let of_each = |micros: f64| micros / REGIONS as f64;
         let shared = || self.time("check") + self.time("root box by hand");
         match name {
@@ -62,6 +67,12 @@ impl Measured {
             "explain's way" => return beyond_check("explain"),
             "a region" => return of_each(self.time("regions") - shared()),
             "walk alone" => return of_each(self.time("64 list calls")) - shared(),
+            "root box" => return beyond("screen", "check"),
+            "root box, half dead" => return beyond("screen, half dead", "check, half dead"),
+            "walk less root box" => return beyond("list", "screen"),
+            "walk less root box, half dead" => {
+                return beyond("list, half dead", "screen, half dead")
+            }
             _ => {}
         }
         let found = self.times.iter().find(|(known, _)| *known == name);

@@ -1,8 +1,10 @@
 //! Which shelves and regions are measured.
 
 use crate::builds;
+use crate::changes;
 use crate::colours;
 use crate::explains;
+use crate::halves;
 use crate::hard::{AGAINST_PIVOTS, HARD};
 use crate::lists::{self, Shelf};
 use crate::measured::{Measured, REGIONS};
@@ -28,7 +30,8 @@ impl Plan {
         }
     }
 
-    /// Every workload: the sizes, several regions in one call, the screens, the explain call, the colours, the dimensions, the other kinds, the hard ones.
+    /// Every workload: the sizes, several regions in one call, the screens, the explain call, the colours, taking and withdrawing, shelves of
+    /// which half is dead, the dimensions, the other kinds, the hard ones.
     pub fn measure(&self) -> Vec<Measured> {
         let mut out = Vec::new();
         for n in self.sizes() {
@@ -40,6 +43,8 @@ impl Plan {
         out.extend(self.screens());
         out.push(self.explains());
         out.push(colours::measure(self.seed, 2 * self.rounds));
+        out.push(self.changes());
+        out.extend(self.halves());
         if self.quick {
             out.extend(self.shelf(AGAINST_PIVOTS, DIMENSION, FULL, no_region));
             return out;
@@ -100,6 +105,25 @@ impl Plan {
         let region = slanted(&stock, 8, 0.01, self.seed);
         let rounds = (self.rounds / 4).max(1);
         explains::measure(&stock, &order, &region, self.seed, rounds)
+    }
+
+    /// Taking and withdrawing, on the shelf that the targets speak of.
+    fn changes(&self) -> Measured {
+        eprintln!("measuring take and withdraw");
+        let stock = CLUSTERED.stock(DIMENSION, FULL, self.seed);
+        let order = builds::agreed_order(&stock);
+        changes::measure(&stock, &order, 4 * self.rounds)
+    }
+
+    /// The shelf that the targets speak of with half of it dead beside all of it live, with regions of few faces and of many.
+    fn halves(&self) -> Vec<Measured> {
+        eprintln!("measuring shelves of which half is dead");
+        let stock = CLUSTERED.stock(DIMENSION, FULL, self.seed);
+        let shelves = halves::Shelves::new(&stock, self.seed);
+        let faces: &[usize] = if self.quick { &[8] } else { &[8, 32] };
+        let list = |&h: &usize| halves::measure_list(&shelves, h, self.seed, 2 * self.rounds);
+        let build = halves::measure_build(&shelves, 2 * self.rounds);
+        [build].into_iter().chain(faces.iter().map(list)).collect()
     }
 
     /// One shelf: its build, then each of its regions.

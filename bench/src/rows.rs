@@ -75,6 +75,24 @@ const EXPLAIN_PAIRS: [(&str, &str); 3] = [
 /// What is compared for colours that become points.
 const COLOUR_PAIRS: [(&str, &str); 1] = [("points from colours", "floor in Rust")];
 
+/// What is compared for points that are taken in and withdrawn.
+const CHANGES_PAIRS: [(&str, &str); 4] = [
+    ("take", "take by hand"),
+    ("take", "check"),
+    ("withdraw", "withdraw by hand"),
+    ("withdraw", "check"),
+];
+
+/// What is compared for a shelf of which half is dead.
+const HALF_BUILD_PAIRS: [(&str, &str); 2] =
+    [("build, half dead", "build"), ("check, half dead", "check")];
+
+/// What is compared for a region that is listed there.
+const HALF_LIST_PAIRS: [(&str, &str); 2] = [
+    ("root box, half dead", "root box"),
+    ("walk less root box, half dead", "walk less root box"),
+];
+
 /// The rows of one workload, with no target yet.
 pub fn rows(measured: &Measured) -> Vec<Row> {
     let pairs: &[(&'static str, &'static str)] = match measured.call {
@@ -84,6 +102,9 @@ pub fn rows(measured: &Measured) -> Vec<Row> {
         Call::Screen => &SCREEN_PAIRS,
         Call::Explain => &EXPLAIN_PAIRS,
         Call::Colours => &COLOUR_PAIRS,
+        Call::Changes => &CHANGES_PAIRS,
+        Call::HalfBuild => &HALF_BUILD_PAIRS,
+        Call::HalfList => &HALF_LIST_PAIRS,
     };
     let row = |&(call, against): &(&'static str, &'static str)| Row {
         call,

@@ -6,12 +6,33 @@ use crate::numbers::Numbers;
 pub const LEAST: i32 = -32_768;
 pub const GREATEST: i32 = 32_767;
 
-/// The points of a shelf, and what kind they are.
+/// The points of a shelf, what kind they are, and which of them are live.
+#[derive(Clone)]
 pub struct Stock {
     pub kind: &'static str,
     pub k: usize,
     pub n: usize,
     pub points: Vec<i32>,
+    pub live: Vec<u8>,
+}
+
+impl Stock {
+    /// The same shelf with half of its numbers dead, each by the seed.
+    pub fn half_dead(&self, seed: u64) -> Stock {
+        let mut numbers = Numbers::new(seed ^ self.n as u64);
+        let live = (0..self.n).map(|_| numbers.below(2) as u8).collect();
+        Stock {
+            live,
+            ..self.clone()
+        }
+    }
+
+    /// The live numbers, the lowest first.
+    pub fn live_numbers(&self) -> Vec<u32> {
+        let all = 0..self.n as u32;
+        all.filter(|&number| self.live[number as usize] == 1)
+            .collect()
+    }
 }
 
 /// A kind of shelf: its name and how its points are made.
@@ -22,13 +43,18 @@ pub struct Kind {
 }
 
 impl Kind {
-    /// A shelf of this kind; the seed, the dimension and the size decide every point.
+    /// A shelf of this kind, all of it live; the seed, the dimension and the size decide every point.
     pub fn stock(&self, k: usize, n: usize, seed: u64) -> Stock {
         let mut numbers = Numbers::new(seed ^ ((n * 8 + k) as u64));
         let points = (self.make)(k, n, &mut numbers);
         assert_eq!(points.len(), k * n, "{} makes k times n", self.name);
-        let kind = self.name;
-        Stock { kind, k, n, points }
+        Stock {
+            kind: self.name,
+            k,
+            n,
+            points,
+            live: vec![1; n],
+        }
     }
 }
 

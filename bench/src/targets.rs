@@ -28,6 +28,9 @@ fn at_most(row: &Row) -> Option<f64> {
         ("regions", "64 list calls") if one_in_a_hundred => Some(0.25),
         ("a region", "walk alone") if one_in_a_hundred => Some(1.05),
         ("regions", "CGAL, inside alone" | "CGAL, both lists") => Some(1.1),
+        ("build, half dead", "build") => Some(0.6),
+        ("check, half dead", "check") => Some(0.7),
+        ("walk less root box, half dead", "walk less root box") => Some(0.75),
         _ => None,
     }
 }

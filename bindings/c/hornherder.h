@@ -3,6 +3,8 @@
  *
  *   hornherder_build     arranges points as a shelf
  *   hornherder_check     says whether an order is that shelf
+ *   hornherder_take      puts a point on the lowest number that is free
+ *   hornherder_withdraw  frees a number
  *   hornherder_list      lists the points inside and outside a region, by way of the shelf
  *   hornherder_list_regions
  *                        does so for each of several regions, and checks the order once for all
@@ -16,12 +18,17 @@
  * Points. A point is k whole numbers. The n points are numbered 0 to n - 1 and lent one after the
  * other: coordinate s of point p is points[p * k + s].
  *
- * The shelf. Slot i of the order holds the number of a point. A run of c slots that starts at slot
- * a has its node at slot a + c / 2; the slots before the node are its left branch, those after it
- * its right branch. The node at depth j (the root's is 0) splits on coordinate j % k: every point
- * of the left branch comes before it and every point of the right branch after it, by that
- * coordinate and, where two are equal, by number. Points and ties leave exactly one such order of
- * 0 to n - 1.
+ * Live bytes. Number p is live where live[p] is 1 and dead where it is 0; v is how many are live. A
+ * dead one is free to be taken. Nothing depends on the coordinates of a dead number, which may be any
+ * 32-bit numbers: the points of a shelf are those of its live numbers. A stock from which nothing was
+ * withdrawn has n ones, and v is n.
+ *
+ * The shelf. Slot i of the order holds the number of a point, for i from 0 to v - 1. A run of c
+ * slots that starts at slot a has its node at slot a + c / 2; the slots before the node are its left
+ * branch, those after it its right branch. The node at depth j (the root's is 0) splits on
+ * coordinate j % k: every point of the left branch comes before it and every point of the right
+ * branch after it, by that coordinate and, where two are equal, by number. Points and ties leave
+ * exactly one such order of the v live numbers.
  *
  * The region. It is cut by h faces. Face f has the normal normals[f * k] to normals[f * k + k - 1],
  * the offset offsets[f] and the mark marks[f], 0 for a closed face and 1 for an open one. A point x
@@ -48,9 +55,10 @@
  * Buffers. Each buffer is lent as a pointer and a length, which counts elements, not bytes. The
  * pointer may be NULL exactly where the length is 0. It must be aligned for its type, as every
  * array in C is. The buffers of one call must not overlap. Buffers behind a pointer to const are
- * not written. An order or a list buffer may be longer than n: its places from n on are neither
- * read nor written; for several regions a list buffer may be longer than n places for each, and a
- * counts buffer than three. The calls allocate nothing, and keep nothing once they have returned.
+ * not written. An order or a list buffer may be longer than v: its places from v on are neither
+ * read nor written; for several regions a list buffer may be longer than v places for each, and a
+ * counts buffer than three. So n places are always enough. The calls allocate nothing, and keep
+ * nothing once they have returned.
  *
  * Refusals. A call that cannot be done returns one of the numbers below. Each call names those that
  * it may return in the order of its tests, makes all the tests before its first write, and returns
@@ -92,14 +100,18 @@ extern "C" {
  * and the shared library has behind its name. It rises by one with each change of a name, a layout
  * or the meaning of a number.
  */
-#define HORNHERDER_VERSION 8
+#define HORNHERDER_VERSION 9
 
 /* k, how many coordinates a point has. */
 #define HORNHERDER_MIN_DIMENSION 1
 #define HORNHERDER_MAX_DIMENSION 4
 
-/* n, how many points there are; there may be none. */
+/* n, how many numbers there are, live or dead; there may be none. */
 #define HORNHERDER_MAX_POINTS 65535
+
+/* A live byte: whether a number is free, or has a point. */
+#define HORNHERDER_DEAD 0
+#define HORNHERDER_LIVE 1
 
 /* A coordinate. */
 #define HORNHERDER_MIN_COORDINATE (-32768)
@@ -150,8 +162,10 @@ extern "C" {
 #define HORNHERDER_NOT_THE_TREE 9u
 #define HORNHERDER_MARKS 11u
 #define HORNHERDER_VALUE_RANGE 12u
-#define HORNHERDER_NO_SUCH_NUMBER 13u
 #define HORNHERDER_REGION_COUNT 14u
+#define HORNHERDER_LIVE_BYTES 15u
+#define HORNHERDER_NONE_DEAD 16u
+#define HORNHERDER_NOT_LIVE 17u
 
 /* When a call returns this number, and the likely cause. */
 static inline const char *hornherder_refusal_text(uint32_t number)
@@ -167,11 +181,12 @@ static inline const char *hornherder_refusal_text(uint32_t number)
         return "the points are not k times n long (one point: not k; a place for a point: not 3); "
                "likely: n counted in coordinates, or a k of another shelf";
     case HORNHERDER_SHORT_BUFFER:
-        return "the order or the list buffer is shorter than n "
-               "(several regions: the list buffer than n for each, or the counts than 3 for each); "
+        return "the order or the list buffer is shorter than v, the count of live numbers "
+               "(several regions: the list buffer than v for each, or the counts than 3 for each); "
                "likely: a buffer of an older, smaller shelf";
     case HORNHERDER_COORDINATE_RANGE:
-        return "a coordinate is not -32,768 to 32,767; likely: colours on another scale";
+        return "a coordinate is not -32,768 to 32,767 (dead numbers aside); "
+               "likely: colours on another scale";
     case HORNHERDER_TOO_MANY_FACES:
         return "h is over 32; "
                "likely: faces that cut nothing off (in a text 33 to 64 faces)";
@@ -184,8 +199,8 @@ static inline const char *hornherder_refusal_text(uint32_t number)
                "or an offset not -8,589,934,592 to 8,589,934,592; "
                "likely: a normal scaled too far, or an offset in a component's place";
     case HORNHERDER_NOT_THE_TREE:
-        return "the first n slots are not the tree of these points; "
-               "likely: the points changed, or the order is of another shelf: build again";
+        return "the first v slots are not the tree of the live points; "
+               "likely: points taken or withdrawn, or an order of another shelf: build again";
     case HORNHERDER_MARKS:
         return "the marks are not h long (several regions: h of all together), "
                "or a mark is not 0 or 1; "
@@ -193,22 +208,34 @@ static inline const char *hornherder_refusal_text(uint32_t number)
     case HORNHERDER_VALUE_RANGE:
         return "a value is not finite, or not from -128 up to but not including 128; "
                "likely: a pixel that was never rendered, or values on a scale of 0 to 255";
-    case HORNHERDER_NO_SUCH_NUMBER:
-        return "the number is n or more; "
-               "likely: numbers counted from 1, or a number of another, larger shelf";
     case HORNHERDER_REGION_COUNT:
         return "the region count is not 1 to 64, or the face counts are not as many; "
                "likely: no region at all, or more than one call takes";
+    case HORNHERDER_LIVE_BYTES:
+        return "the live bytes are not n long, or one is not 0 or 1; "
+               "likely: bytes for the live numbers alone, or bytes never set";
+    case HORNHERDER_NONE_DEAD:
+        return "all n numbers are live; "
+               "likely: a stock that has outgrown its n";
+    case HORNHERDER_NOT_LIVE:
+        return "the number is dead, or n or more; "
+               "likely: a picture withdrawn before, or numbers counted from 1";
     default:
         return "no number of this version";
     }
 }
 
+/* What hornherder_take answers. */
+typedef struct {
+    uint32_t code;   /* HORNHERDER_DONE, or the refusal */
+    uint32_t number; /* the number that the point has now; 0 where refused */
+} hornherder_taking;
+
 /* What hornherder_list answers. */
 typedef struct {
     uint32_t code;    /* HORNHERDER_DONE, or the refusal */
     uint32_t inside;  /* how many points are inside */
-    uint32_t outside; /* how many are outside; where done, inside + outside is n */
+    uint32_t outside; /* how many are outside; where done, inside + outside is v */
     uint32_t visits;  /* how many slots are open, see hornherder_list */
 } hornherder_listing;
 
@@ -245,47 +272,86 @@ typedef struct {
 } hornherder_making;
 
 /*
- * Arranges the points: writes their shelf into order[0] to order[n - 1]. What the order held before
+ * Arranges the points: writes their shelf into order[0] to order[v - 1]. What the order held before
  * does not matter.
  *
- *   points   k * n coordinates, each -32,768 to 32,767
- *   order    at least n places
+ *   points   k * n coordinates, those of live numbers each -32,768 to 32,767
+ *   live     n live bytes, each 0 (dead) or 1 (live)
+ *   order    at least v places
  *
- * Returns HORNHERDER_DONE, or a refusal: 1 to 5.
+ * Returns HORNHERDER_DONE, or a refusal: 1, 2, 3, then 15, then 4, 5.
  */
 uint32_t hornherder_build(size_t k, size_t n, const int32_t *points, size_t points_len,
-                          uint32_t *order, size_t order_len);
+                          const uint8_t *live, size_t live_len, uint32_t *order, size_t order_len);
 
 /*
- * Checks an order: returns HORNHERDER_DONE exactly where order[0] to order[n - 1] are the shelf of
+ * Checks an order: returns HORNHERDER_DONE exactly where order[0] to order[v - 1] are the shelf of
  * these points.
  *
- *   points   k * n coordinates, each -32,768 to 32,767
- *   order    at least n places, which may hold any numbers
+ *   points   k * n coordinates, those of live numbers each -32,768 to 32,767
+ *   live     n live bytes, each 0 (dead) or 1 (live)
+ *   order    at least v places, which may hold any numbers
  *
- * Returns HORNHERDER_DONE, or a refusal: 1 to 5, then 9.
+ * Returns HORNHERDER_DONE, or a refusal: 1, 2, 3, then 15, then 4, 5, then 9.
  */
 uint32_t hornherder_check(size_t k, size_t n, const int32_t *points, size_t points_len,
-                          const uint32_t *order, size_t order_len);
+                          const uint8_t *live, size_t live_len, const uint32_t *order,
+                          size_t order_len);
+
+/*
+ * Takes a point in: writes it at the lowest dead number and sets that number's live byte. So numbers
+ * that were freed are used first, and there is room unless all n are live.
+ *
+ *   points   k * n coordinates, those of live numbers each -32,768 to 32,767; the k coordinates of
+ *            the number taken are written, and no others
+ *   live     n live bytes, each 0 (dead) or 1 (live); that of the number taken is set, and no other
+ *   point    k coordinates, each -32,768 to 32,767
+ *
+ * The order is not asked for. One of before passes hornherder_check only where the new number stands
+ * in it already, as where it is taken again right after it was withdrawn; hornherder_build makes it
+ * anew.
+ *
+ * Answers HORNHERDER_DONE with the number taken, or a refusal, 1, 2, 3, then 15, then 5, then 16,
+ * with 0. 3 and 5 are asked of the new point too. Number 0 may be the one that is taken: ask the code.
+ */
+hornherder_taking hornherder_take(size_t k, size_t n, int32_t *points, size_t points_len,
+                                  uint8_t *live, size_t live_len, const int32_t *point,
+                                  size_t point_len);
+
+/*
+ * Withdraws a point: clears the live byte of its number, which can then be taken again.
+ *
+ *   number   a number that is live
+ *   live     n live bytes, each 0 (dead) or 1 (live); that of the number is cleared, and no other
+ *
+ * Neither points nor order are asked for, and the coordinates stay as they are. Whether an order that
+ * was the shelf before still passes is for hornherder_check to say, by the points that are live now.
+ * It can only where the number stood in the last slot, and with k = 1 it always does then.
+ *
+ * Returns HORNHERDER_DONE, or a refusal: 2, then 15, then 17.
+ */
+uint32_t hornherder_withdraw(size_t n, uint32_t number, uint8_t *live, size_t live_len);
 
 /*
  * Lists the points of a shelf that are inside and outside a region. The order is checked first.
  *
- *   points   k * n coordinates, each -32,768 to 32,767
- *   order    at least n places; the first n must be the shelf of these points
+ *   points   k * n coordinates, those of live numbers each -32,768 to 32,767
+ *   live     n live bytes, each 0 (dead) or 1 (live)
+ *   order    at least v places; the first v must be the shelf of these points
  *   normals  k * h components, each -32,767 to 32,767
  *   offsets  h offsets, each -8,589,934,592 to 8,589,934,592
  *   marks    h marks, each 0 (closed) or 1 (open)
- *   list     at least n places, to be written
+ *   list     at least v places, to be written
  *
- * Where it is done, list[0] to list[n - 1] hold each number once: those inside from the front, in
- * shelf order; those outside from place n - 1 backwards, so that the first of them in shelf order
- * stands at place n - 1. These loops read both in shelf order:
+ * Where it is done, list[0] to list[v - 1] hold each live number once: those inside from the front,
+ * in shelf order; those outside from place v - 1 backwards, so that the first of them in shelf order
+ * stands at place v - 1. The counts say v: it is inside + outside. These loops read both in shelf
+ * order:
  *
  *     for (uint32_t i = 0; i < answer.inside; i++)
- *         take(list[i]);
+ *         show(list[i]);
  *     for (uint32_t i = 0; i < answer.outside; i++)
- *         leave(list[n - 1 - i]);
+ *         leave(list[answer.inside + answer.outside - 1 - i]);
  *
  * The visits say what the answer cost: how many slots are open. A slot is open unless the box of
  * the branch whose node it holds lies wholly below at least one face, or wholly above all of them.
@@ -297,14 +363,16 @@ uint32_t hornherder_check(size_t k, size_t n, const int32_t *points, size_t poin
  *
  * The visits are at most the sum of the visits of each face taken as a region alone. A face is
  * square when at most one component of its normal is not zero. Where all faces are square, the
- * visits are at most h times S(n, k): the sum over j = 0 to H - 1 of 2 to the power (j - j / k),
- * with j / k rounded down and H the number of binary digits of n. S(65535, k) is 16, 765, 3411 and
+ * visits are at most h times S(v, k): the sum over j = 0 to H - 1 of 2 to the power (j - j / k),
+ * with j / k rounded down and H the number of binary digits of v. S(65535, k) is 16, 765, 3411 and
  * 8775 for k = 1 to 4.
  *
- * Answers HORNHERDER_DONE with the three counts, or a refusal, 1 to 8, then 11, then 9, with zeros.
+ * Answers HORNHERDER_DONE with the three counts, or a refusal, 1, 2, 3, then 15, then 4 to 8, then
+ * 11, then 9, with zeros.
  */
 hornherder_listing hornherder_list(size_t k, size_t n, size_t h, const int32_t *points,
-                                   size_t points_len, const uint32_t *order, size_t order_len,
+                                   size_t points_len, const uint8_t *live, size_t live_len,
+                                   const uint32_t *order, size_t order_len,
                                    const int32_t *normals, size_t normals_len,
                                    const int64_t *offsets, size_t offsets_len,
                                    const uint8_t *marks, size_t marks_len, uint32_t *list,
@@ -315,35 +383,38 @@ hornherder_listing hornherder_list(size_t k, size_t n, size_t h, const int32_t *
  * checked once, before the first region, where as many calls of hornherder_list check it each time.
  *
  *   regions      how many regions there are, 1 to 64
- *   points       k * n coordinates, each -32,768 to 32,767
- *   order        at least n places; the first n must be the shelf of these points
+ *   points       k * n coordinates, those of live numbers each -32,768 to 32,767
+ *   live         n live bytes, each 0 (dead) or 1 (live)
+ *   order        at least v places; the first v must be the shelf of these points
  *   face_counts  for each region how many faces it has, 0 to 32: exactly as many numbers as regions
  *   normals      k components for each face of all regions, each -32,767 to 32,767
  *   offsets      an offset for each of them, each -8,589,934,592 to 8,589,934,592
  *   marks        a mark for each of them, each 0 (closed) or 1 (open)
- *   lists        at least n places for each region, to be written
+ *   lists        at least v places for each region, to be written
  *   counts       at least three places for each region, to be written
  *
  * The faces stand end to end: those of region 0, then those of region 1, and so on. The h of the
  * lengths of normals, offsets and marks is that of all regions together.
  *
- * Where it is done, region r has its list in lists[r * n] to lists[r * n + n - 1], just as
- * hornherder_list, called with its faces alone, writes it to list[0] to list[n - 1]; and its counts,
+ * Where it is done, region r has its list in lists[r * v] to lists[r * v + v - 1], just as
+ * hornherder_list, called with its faces alone, writes it to list[0] to list[v - 1]; and its counts,
  * as that call answers them, in counts[3 * r] (inside), counts[3 * r + 1] (outside) and
- * counts[3 * r + 2] (visits). Later places of both buffers stay as they were. These loops read both
- * lists of region r in shelf order:
+ * counts[3 * r + 2] (visits). Each list starts where the one before it ends, so it is v, not n, that
+ * tells the place; v is counts[0] + counts[1]. Later places of both buffers stay as they were. These
+ * loops read both lists of region r in shelf order:
  *
  *     for (uint32_t i = 0; i < counts[3 * r]; i++)
- *         take(lists[r * n + i]);
+ *         show(lists[r * v + i]);
  *     for (uint32_t i = 0; i < counts[3 * r + 1]; i++)
- *         leave(lists[r * n + n - 1 - i]);
+ *         leave(lists[r * v + v - 1 - i]);
  *
- * Returns HORNHERDER_DONE, or a refusal: 1, 2, 3, then 14, then 4 to 8, then 11, then 9. One region
- * with a fault refuses the whole call, and neither buffer is written. 6 is for a region with over 32
- * faces, whatever the others have.
+ * Returns HORNHERDER_DONE, or a refusal: 1, 2, 3, then 15, then 14, then 4 to 8, then 11, then 9. One
+ * region with a fault refuses the whole call, and neither buffer is written. 6 is for a region with
+ * over 32 faces, whatever the others have.
  */
 uint32_t hornherder_list_regions(size_t k, size_t n, size_t regions, const int32_t *points,
-                                 size_t points_len, const uint32_t *order, size_t order_len,
+                                 size_t points_len, const uint8_t *live, size_t live_len,
+                                 const uint32_t *order, size_t order_len,
                                  const uint32_t *face_counts, size_t face_counts_len,
                                  const int32_t *normals, size_t normals_len,
                                  const int64_t *offsets, size_t offsets_len,
@@ -354,8 +425,9 @@ uint32_t hornherder_list_regions(size_t k, size_t n, size_t regions, const int32
  * Says whether any point of a shelf is inside a region, and which is the first in shelf order. It
  * stops as soon as it has one, and writes nothing. The order is checked first.
  *
- *   points   k * n coordinates, each -32,768 to 32,767
- *   order    at least n places; the first n must be the shelf of these points
+ *   points   k * n coordinates, those of live numbers each -32,768 to 32,767
+ *   live     n live bytes, each 0 (dead) or 1 (live)
+ *   order    at least v places; the first v must be the shelf of these points
  *   normals  k * h components, each -32,767 to 32,767
  *   offsets  h offsets, each -8,589,934,592 to 8,589,934,592
  *   marks    h marks, each 0 (closed) or 1 (open)
@@ -367,11 +439,12 @@ uint32_t hornherder_list_regions(size_t k, size_t n, size_t regions, const int32
  * one; all open slots where none is found. They are counted by slot: a node to the right of the
  * found slot is not counted, though the way to that slot may lead through it.
  *
- * Answers HORNHERDER_DONE with found, number and visits, or a refusal, 1 to 8, then 11, then 9,
- * with zeros.
+ * Answers HORNHERDER_DONE with found, number and visits, or a refusal, 1, 2, 3, then 15, then 4 to 8,
+ * then 11, then 9, with zeros.
  */
 hornherder_screening hornherder_screen(size_t k, size_t n, size_t h, const int32_t *points,
-                                       size_t points_len, const uint32_t *order, size_t order_len,
+                                       size_t points_len, const uint8_t *live, size_t live_len,
+                                       const uint32_t *order, size_t order_len,
                                        const int32_t *normals, size_t normals_len,
                                        const int64_t *offsets, size_t offsets_len,
                                        const uint8_t *marks, size_t marks_len);
@@ -381,9 +454,10 @@ hornherder_screening hornherder_screen(size_t k, size_t n, size_t h, const int32
  * own test. It goes one way down from the root to the point, and writes nothing. The order is
  * checked first.
  *
- *   number   the number of the point, 0 to n - 1
- *   points   k * n coordinates, each -32,768 to 32,767
- *   order    at least n places; the first n must be the shelf of these points
+ *   number   the number of the point, which must be live
+ *   points   k * n coordinates, those of live numbers each -32,768 to 32,767
+ *   live     n live bytes, each 0 (dead) or 1 (live)
+ *   order    at least v places; the first v must be the shelf of these points
  *   normals  k * h components, each -32,767 to 32,767
  *   offsets  h offsets, each -8,589,934,592 to 8,589,934,592
  *   marks    h marks, each 0 (closed) or 1 (open)
@@ -404,16 +478,18 @@ hornherder_screening hornherder_screen(size_t k, size_t n, size_t h, const int32
  * point's to that face in both cases: negative, or 0 where the point lies on it and it is open.
  * hornherder_place, which looks for the least margin, may name another face. Inside, face and margin
  * are 0; outside they may be too, so ask the reason. With no faces every point is inside with the
- * branch of the root, whose node has slot n / 2.
+ * branch of the root, whose node has slot v / 2.
  *
  * The point is inside exactly where hornherder_list, called with the same, lists its number inside.
  * The reason is the point by itself exactly where its own slot is open, and so one of the visits.
  *
- * Answers HORNHERDER_DONE with reason, face, slot and margin, or a refusal, 1 to 8, then 11, then 9,
- * then 13, with zeros. With a wrong order it is 9, also for a number of n or more.
+ * Answers HORNHERDER_DONE with reason, face, slot and margin, or a refusal, 1, 2, 3, then 15, then 4
+ * to 8, then 11, then 9, then 17, with zeros. With a wrong order it is 9, also for a number that is
+ * dead, or n or more.
  */
 hornherder_explaining hornherder_explain(size_t k, size_t n, size_t h, uint32_t number,
                                          const int32_t *points, size_t points_len,
+                                         const uint8_t *live, size_t live_len,
                                          const uint32_t *order, size_t order_len,
                                          const int32_t *normals, size_t normals_len,
                                          const int64_t *offsets, size_t offsets_len,

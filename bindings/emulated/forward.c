@@ -128,54 +128,76 @@ static hornherder_making forward_reading(int call, float first, float second, fl
     return pass(request, buffers).making;
 }
 
-uint32_t hornherder_build(size_t k, size_t n, const int32_t *points, size_t points_len, uint32_t *order, size_t order_len)
+uint32_t hornherder_build(size_t k, size_t n, const int32_t *points, size_t points_len, const uint8_t *live, size_t live_len,
+                          uint32_t *order, size_t order_len)
 {
-    const lent buffers[WIRE_BUFFERS] = {{points, points_len, 0}, {order, order_len, 1}};
+    const lent buffers[WIRE_BUFFERS] = {{points, points_len, 0}, {live, live_len, 0}, {order, order_len, 1}};
     return forward(WIRE_BUILD, k, n, 0, buffers).code;
 }
 
-uint32_t hornherder_check(size_t k, size_t n, const int32_t *points, size_t points_len, const uint32_t *order, size_t order_len)
+uint32_t hornherder_check(size_t k, size_t n, const int32_t *points, size_t points_len, const uint8_t *live, size_t live_len,
+                          const uint32_t *order, size_t order_len)
 {
-    const lent buffers[WIRE_BUFFERS] = {{points, points_len, 0}, {order, order_len, 0}};
+    const lent buffers[WIRE_BUFFERS] = {{points, points_len, 0}, {live, live_len, 0}, {order, order_len, 0}};
     return forward(WIRE_CHECK, k, n, 0, buffers).code;
 }
 
-hornherder_listing hornherder_list(size_t k, size_t n, size_t h, const int32_t *points, size_t points_len, const uint32_t *order,
-                                   size_t order_len, const int32_t *normals, size_t normals_len, const int64_t *offsets,
-                                   size_t offsets_len, const uint8_t *marks, size_t marks_len, uint32_t *list, size_t list_len)
+hornherder_taking hornherder_take(size_t k, size_t n, int32_t *points, size_t points_len, uint8_t *live, size_t live_len,
+                                  const int32_t *point, size_t point_len)
 {
-    const lent buffers[WIRE_BUFFERS] = {{points, points_len, 0},   {order, order_len, 0}, {normals, normals_len, 0},
-                                        {offsets, offsets_len, 0}, {marks, marks_len, 0}, {list, list_len, 1}};
+    lent buffers[WIRE_BUFFERS] = {{points, points_len, 1}, {live, live_len, 1}};
+    buffers[WIRE_NEW_POINT] = (lent){point, point_len, 0};
+    return forward(WIRE_TAKE, k, n, 0, buffers).taking;
+}
+
+uint32_t hornherder_withdraw(size_t n, uint32_t number, uint8_t *live, size_t live_len)
+{
+    const wire_request request = {WIRE_WITHDRAW, 0, n, 0, {0}, {0}, {0, 0, 0}, number};
+    const lent buffers[WIRE_BUFFERS] = {{NULL, 0, 0}, {live, live_len, 1}};
+    return pass(request, buffers).code;
+}
+
+hornherder_listing hornherder_list(size_t k, size_t n, size_t h, const int32_t *points, size_t points_len, const uint8_t *live,
+                                   size_t live_len, const uint32_t *order, size_t order_len, const int32_t *normals,
+                                   size_t normals_len, const int64_t *offsets, size_t offsets_len, const uint8_t *marks,
+                                   size_t marks_len, uint32_t *list, size_t list_len)
+{
+    const lent buffers[WIRE_BUFFERS] = {{points, points_len, 0},   {live, live_len, 0},       {order, order_len, 0},
+                                        {normals, normals_len, 0}, {offsets, offsets_len, 0}, {marks, marks_len, 0},
+                                        {list, list_len, 1}};
     return forward(WIRE_LIST, k, n, h, buffers).listing;
 }
 
-uint32_t hornherder_list_regions(size_t k, size_t n, size_t regions, const int32_t *points, size_t points_len, const uint32_t *order,
-                                 size_t order_len, const uint32_t *face_counts, size_t face_counts_len, const int32_t *normals,
-                                 size_t normals_len, const int64_t *offsets, size_t offsets_len, const uint8_t *marks,
-                                 size_t marks_len, uint32_t *lists, size_t lists_len, uint32_t *counts, size_t counts_len)
+uint32_t hornherder_list_regions(size_t k, size_t n, size_t regions, const int32_t *points, size_t points_len, const uint8_t *live,
+                                 size_t live_len, const uint32_t *order, size_t order_len, const uint32_t *face_counts,
+                                 size_t face_counts_len, const int32_t *normals, size_t normals_len, const int64_t *offsets,
+                                 size_t offsets_len, const uint8_t *marks, size_t marks_len, uint32_t *lists, size_t lists_len,
+                                 uint32_t *counts, size_t counts_len)
 {
-    const lent buffers[WIRE_BUFFERS] = {{points, points_len, 0},           {order, order_len, 0}, {normals, normals_len, 0},
-                                        {offsets, offsets_len, 0},         {marks, marks_len, 0}, {lists, lists_len, 1},
-                                        {face_counts, face_counts_len, 0}, {counts, counts_len, 1}};
+    const lent buffers[WIRE_BUFFERS] = {{points, points_len, 0},   {live, live_len, 0},               {order, order_len, 0},
+                                        {normals, normals_len, 0}, {offsets, offsets_len, 0},         {marks, marks_len, 0},
+                                        {lists, lists_len, 1},     {face_counts, face_counts_len, 0}, {counts, counts_len, 1}};
     return forward(WIRE_LIST_REGIONS, k, n, regions, buffers).code;
 }
 
-hornherder_screening hornherder_screen(size_t k, size_t n, size_t h, const int32_t *points, size_t points_len, const uint32_t *order,
-                                       size_t order_len, const int32_t *normals, size_t normals_len, const int64_t *offsets,
-                                       size_t offsets_len, const uint8_t *marks, size_t marks_len)
+hornherder_screening hornherder_screen(size_t k, size_t n, size_t h, const int32_t *points, size_t points_len, const uint8_t *live,
+                                       size_t live_len, const uint32_t *order, size_t order_len, const int32_t *normals,
+                                       size_t normals_len, const int64_t *offsets, size_t offsets_len, const uint8_t *marks,
+                                       size_t marks_len)
 {
-    const lent buffers[WIRE_BUFFERS] = {
-        {points, points_len, 0}, {order, order_len, 0}, {normals, normals_len, 0}, {offsets, offsets_len, 0}, {marks, marks_len, 0}};
+    const lent buffers[WIRE_BUFFERS] = {{points, points_len, 0},   {live, live_len, 0},       {order, order_len, 0},
+                                        {normals, normals_len, 0}, {offsets, offsets_len, 0}, {marks, marks_len, 0}};
     return forward(WIRE_SCREEN, k, n, h, buffers).screening;
 }
 
 hornherder_explaining hornherder_explain(size_t k, size_t n, size_t h, uint32_t number, const int32_t *points, size_t points_len,
-                                         const uint32_t *order, size_t order_len, const int32_t *normals, size_t normals_len,
-                                         const int64_t *offsets, size_t offsets_len, const uint8_t *marks, size_t marks_len)
+                                         const uint8_t *live, size_t live_len, const uint32_t *order, size_t order_len,
+                                         const int32_t *normals, size_t normals_len, const int64_t *offsets, size_t offsets_len,
+                                         const uint8_t *marks, size_t marks_len)
 {
     const wire_request request = {WIRE_EXPLAIN, k, n, h, {0}, {0}, {0, 0, 0}, number};
-    const lent buffers[WIRE_BUFFERS] = {
-        {points, points_len, 0}, {order, order_len, 0}, {normals, normals_len, 0}, {offsets, offsets_len, 0}, {marks, marks_len, 0}};
+    const lent buffers[WIRE_BUFFERS] = {{points, points_len, 0},   {live, live_len, 0},       {order, order_len, 0},
+                                        {normals, normals_len, 0}, {offsets, offsets_len, 0}, {marks, marks_len, 0}};
     return pass(request, buffers).explaining;
 }
 
@@ -184,7 +206,7 @@ hornherder_placing hornherder_place(size_t k, size_t h, const int32_t *point, si
                                     size_t marks_len)
 {
     const lent buffers[WIRE_BUFFERS] = {
-        {point, point_len, 0}, {NULL, 0, 0}, {normals, normals_len, 0}, {offsets, offsets_len, 0}, {marks, marks_len, 0}};
+        {point, point_len, 0}, {NULL, 0, 0}, {NULL, 0, 0}, {normals, normals_len, 0}, {offsets, offsets_len, 0}, {marks, marks_len, 0}};
     return forward(WIRE_PLACE, k, 0, h, buffers).placing;
 }
 

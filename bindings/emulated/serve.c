@@ -88,29 +88,44 @@ static hornherder_making make(const wire_request *r, int32_t *place)
     }
 }
 
+/* Makes the call of a request that takes a point in or withdraws one, with these buffers. */
+static wire_answer change(const wire_request *r, void **b)
+{
+    uint8_t *live = (uint8_t *)b[WIRE_LIVE];
+    const uint64_t *length = r->length;
+    wire_answer answer = {{0, 0, 0, 0}};
+    if (r->call == WIRE_TAKE)
+        answer.taking = hornherder_take(r->k, r->n, (int32_t *)b[WIRE_POINTS], length[WIRE_POINTS], live, length[WIRE_LIVE],
+                                        (const int32_t *)b[WIRE_NEW_POINT], length[WIRE_NEW_POINT]);
+    else
+        answer.code = hornherder_withdraw(r->n, r->number, live, length[WIRE_LIVE]);
+    return answer;
+}
+
 /* Makes the call of a request that has a region, with these buffers. */
 static wire_answer ask(const wire_request *r, void **b)
 {
     const int32_t *points = (const int32_t *)b[WIRE_POINTS], *normals = (const int32_t *)b[WIRE_NORMALS];
     const uint32_t *order = (const uint32_t *)b[WIRE_ORDER];
     const int64_t *offsets = (const int64_t *)b[WIRE_OFFSETS];
-    const uint8_t *marks = (const uint8_t *)b[WIRE_MARKS];
+    const uint8_t *live = (const uint8_t *)b[WIRE_LIVE], *marks = (const uint8_t *)b[WIRE_MARKS];
     const uint64_t *length = r->length;
     wire_answer answer = {{0, 0, 0, 0}};
     switch (r->call) {
     case WIRE_LIST:
-        answer.listing = hornherder_list(r->k, r->n, r->h, points, length[WIRE_POINTS], order, length[WIRE_ORDER], normals,
-                                         length[WIRE_NORMALS], offsets, length[WIRE_OFFSETS], marks, length[WIRE_MARKS],
-                                         (uint32_t *)b[WIRE_LIST_BUFFER], length[WIRE_LIST_BUFFER]);
+        answer.listing = hornherder_list(r->k, r->n, r->h, points, length[WIRE_POINTS], live, length[WIRE_LIVE], order,
+                                         length[WIRE_ORDER], normals, length[WIRE_NORMALS], offsets, length[WIRE_OFFSETS], marks,
+                                         length[WIRE_MARKS], (uint32_t *)b[WIRE_LIST_BUFFER], length[WIRE_LIST_BUFFER]);
         return answer;
     case WIRE_SCREEN:
-        answer.screening = hornherder_screen(r->k, r->n, r->h, points, length[WIRE_POINTS], order, length[WIRE_ORDER], normals,
-                                             length[WIRE_NORMALS], offsets, length[WIRE_OFFSETS], marks, length[WIRE_MARKS]);
+        answer.screening = hornherder_screen(r->k, r->n, r->h, points, length[WIRE_POINTS], live, length[WIRE_LIVE], order,
+                                             length[WIRE_ORDER], normals, length[WIRE_NORMALS], offsets, length[WIRE_OFFSETS], marks,
+                                             length[WIRE_MARKS]);
         return answer;
     case WIRE_EXPLAIN:
-        answer.explaining = hornherder_explain(r->k, r->n, r->h, r->number, points, length[WIRE_POINTS], order, length[WIRE_ORDER],
-                                               normals, length[WIRE_NORMALS], offsets, length[WIRE_OFFSETS], marks,
-                                               length[WIRE_MARKS]);
+        answer.explaining = hornherder_explain(r->k, r->n, r->h, r->number, points, length[WIRE_POINTS], live, length[WIRE_LIVE], order,
+                                               length[WIRE_ORDER], normals, length[WIRE_NORMALS], offsets, length[WIRE_OFFSETS],
+                                               marks, length[WIRE_MARKS]);
         return answer;
     default:
         answer.placing = hornherder_place(r->k, r->h, points, length[WIRE_POINTS], normals, length[WIRE_NORMALS], offsets,
@@ -125,8 +140,9 @@ static wire_answer ask_all(const wire_request *r, void **b)
     const uint64_t *length = r->length;
     wire_answer answer = {{0, 0, 0, 0}};
     answer.code = hornherder_list_regions(
-        r->k, r->n, r->h, (const int32_t *)b[WIRE_POINTS], length[WIRE_POINTS], (const uint32_t *)b[WIRE_ORDER], length[WIRE_ORDER],
-        (const uint32_t *)b[WIRE_FACE_COUNTS], length[WIRE_FACE_COUNTS], (const int32_t *)b[WIRE_NORMALS], length[WIRE_NORMALS],
+        r->k, r->n, r->h, (const int32_t *)b[WIRE_POINTS], length[WIRE_POINTS], (const uint8_t *)b[WIRE_LIVE], length[WIRE_LIVE],
+        (const uint32_t *)b[WIRE_ORDER], length[WIRE_ORDER], (const uint32_t *)b[WIRE_FACE_COUNTS], length[WIRE_FACE_COUNTS],
+        (const int32_t *)b[WIRE_NORMALS], length[WIRE_NORMALS],
         (const int64_t *)b[WIRE_OFFSETS], length[WIRE_OFFSETS], (const uint8_t *)b[WIRE_MARKS], length[WIRE_MARKS],
         (uint32_t *)b[WIRE_LIST_BUFFER], length[WIRE_LIST_BUFFER], (uint32_t *)b[WIRE_COUNTS_BUFFER], length[WIRE_COUNTS_BUFFER]);
     return answer;
@@ -136,16 +152,20 @@ static wire_answer ask_all(const wire_request *r, void **b)
 static wire_answer call(const wire_request *r, void **b)
 {
     const int32_t *points = (const int32_t *)b[WIRE_POINTS];
+    const uint8_t *live = (const uint8_t *)b[WIRE_LIVE];
     uint32_t *order = (uint32_t *)b[WIRE_ORDER];
     const uint64_t *length = r->length;
     wire_answer answer = {{0, 0, 0, 0}};
     switch (r->call) {
     case WIRE_BUILD:
-        answer.code = hornherder_build(r->k, r->n, points, length[WIRE_POINTS], order, length[WIRE_ORDER]);
+        answer.code = hornherder_build(r->k, r->n, points, length[WIRE_POINTS], live, length[WIRE_LIVE], order, length[WIRE_ORDER]);
         return answer;
     case WIRE_CHECK:
-        answer.code = hornherder_check(r->k, r->n, points, length[WIRE_POINTS], order, length[WIRE_ORDER]);
+        answer.code = hornherder_check(r->k, r->n, points, length[WIRE_POINTS], live, length[WIRE_LIVE], order, length[WIRE_ORDER]);
         return answer;
+    case WIRE_TAKE:
+    case WIRE_WITHDRAW:
+        return change(r, b);
     case WIRE_LIST:
     case WIRE_SCREEN:
     case WIRE_EXPLAIN:

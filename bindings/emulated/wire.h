@@ -11,6 +11,8 @@
 enum {
     WIRE_BUILD,
     WIRE_CHECK,
+    WIRE_TAKE,
+    WIRE_WITHDRAW,
     WIRE_LIST,
     WIRE_LIST_REGIONS,
     WIRE_SCREEN,
@@ -22,9 +24,11 @@ enum {
     WIRE_VERSION
 };
 
-/* The buffers. A call that has no such buffer lends it as NULL and 0; calls for one point have it, or its place, in the first. */
+/* The buffers. A call that has no such buffer lends it as NULL and 0; calls for one point have it, or its place, in the first, but for
+   take, which has all points there. */
 enum {
     WIRE_POINTS,
+    WIRE_LIVE,
     WIRE_ORDER,
     WIRE_NORMALS,
     WIRE_OFFSETS,
@@ -32,6 +36,7 @@ enum {
     WIRE_LIST_BUFFER,
     WIRE_FACE_COUNTS,
     WIRE_COUNTS_BUFFER,
+    WIRE_NEW_POINT,
     WIRE_BUFFERS
 };
 
@@ -43,7 +48,7 @@ typedef struct {
     uint64_t length[WIRE_BUFFERS]; /* elements */
     uint64_t null[WIRE_BUFFERS];   /* 1 where the pointer was NULL */
     float value[3];                /* of a reading, those it has first */
-    uint32_t number;               /* of the point that is asked about, else 0; so no byte is left unset */
+    uint32_t number;               /* of the point that is asked about or withdrawn, else 0; so no byte is left unset */
 } wire_request;
 
 /* The answer of a call; the code alone where that is a number. The listing comes first: it has every byte, so clearing it clears all. */
@@ -53,6 +58,7 @@ typedef union {
     hornherder_explaining explaining;
     hornherder_placing placing;
     hornherder_making making;
+    hornherder_taking taking;
     uint32_t code;
 } wire_answer;
 
@@ -62,6 +68,7 @@ static inline size_t wire_width(int buffer)
     switch (buffer) {
     case WIRE_OFFSETS:
         return sizeof(int64_t);
+    case WIRE_LIVE:
     case WIRE_MARKS:
         return sizeof(uint8_t);
     default:

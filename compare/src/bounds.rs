@@ -13,11 +13,11 @@ fn visits_alone(lent: &Lent) -> Vec<u64> {
     let shelf = Shelf {
         k: lent.k,
         points: &lent.points,
-        slots: &lent.order[..lent.n],
+        slots: lent.slots(),
     };
     let boxes: Vec<BranchBox> = match root_box(&shelf) {
         None => Vec::new(),
-        Some(root) => (0..lent.n)
+        Some(root) => (0..lent.v())
             .map(|slot| branch_box(&shelf, &root, slot))
             .collect(),
     };
@@ -30,10 +30,10 @@ fn visits_alone(lent: &Lent) -> Vec<u64> {
         .collect()
 }
 
-/// h times S(n, k), if all faces are square.
+/// h times S(v, k), if all faces are square.
 fn square_bound(lent: &Lent) -> Option<u64> {
     let all = lent.normals.chunks(lent.k).all(is_square);
-    all.then(|| lent.h as u64 * s(lent.n, lent.k))
+    all.then(|| lent.h as u64 * s(lent.v(), lent.k))
 }
 
 /// Holds the visits of an accepted call against both bounds.

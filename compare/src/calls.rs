@@ -8,15 +8,30 @@ use crate::reasons;
 use hornherder::raw;
 use std::fmt::Debug;
 
-/// Compares build: the answer, and the order afterwards.
+/// Compares build, also with other dead coordinates: the answer, and the order afterwards.
 pub fn build(lent: &Lent) -> (u32, Vec<u32>) {
-    let (mut ours, mut theirs) = (lent.clone(), lent.clone());
-    let answer = raw::build(lent.k, lent.n, &ours.points, &mut ours.order);
-    let expected = second::build(lent.k, lent.n, &theirs.points, &mut theirs.order);
+    let Lent { k, n, .. } = *lent;
+    let mut theirs = lent.clone();
+    let expected = second::build(k, n, &lent.points, &lent.live, &mut theirs.order);
+    let (answer, order) = built(lent);
     assert_eq!(answer, expected, "build of {lent:?}");
-    same_lent("build", lent, &ours, &theirs);
-    kept("build", lent, answer, &lent.order, &ours.order);
-    (answer, ours.order)
+    same("build", lent, &order, &theirs.order);
+    kept("build", lent, answer, &lent.order, &order);
+    if let Some(other) = lent.with_other_dead() {
+        let (again, after) = built(&other);
+        assert_eq!(again, answer, "build by other dead coordinates of {lent:?}");
+        same("build by other dead coordinates", lent, &after, &order);
+    }
+    (answer, order)
+}
+
+/// Calls the library's build: the answer, and the order afterwards.
+fn built(lent: &Lent) -> (u32, Vec<u32>) {
+    let mut order = lent.order.clone();
+    let answer = lend_live(lent, |points, live| {
+        raw::build(lent.k, lent.n, points, live, &mut order)
+    });
+    (answer, order)
 }
 
 /// The shelf of right points: the same with the order that build made, which check accepts.
@@ -28,17 +43,28 @@ pub fn shelf(lent: &Lent) -> Lent {
     shelf
 }
 
-/// Compares check, also with other numbers behind place n.
+/// Compares check, also with other numbers behind place v and with other dead coordinates.
 pub fn check(lent: &Lent) -> u32 {
-    let ours = lent.clone();
-    let answer = raw::check(lent.k, lent.n, &ours.points, &ours.order);
-    let expected = second::check(lent.k, lent.n, &lent.points, &lent.order);
+    let Lent { k, n, .. } = *lent;
+    let answer = checked(lent);
+    let expected = second::check(k, n, &lent.points, &lent.live, &lent.order);
     assert_eq!(answer, expected, "check of {lent:?}");
-    same_lent("check", lent, &ours, lent);
-    let other = lent.with_other_behind();
-    let again = raw::check(lent.k, lent.n, &other.points, &other.order);
-    assert_eq!(again, answer, "check by what is behind place n of {lent:?}");
+    let behind = checked(&lent.with_other_behind());
+    assert_eq!(behind, answer, "check by what is behind of {lent:?}");
+    if let Some(other) = lent.with_other_dead() {
+        let again = checked(&other);
+        assert_eq!(again, answer, "check by other dead coordinates of {lent:?}");
+    }
     answer
+}
+
+/// Calls the library's check.
+fn checked(lent: &Lent) -> u32 {
+    lend_live(lent, |points, live| {
+        lend(lent, &lent.order, |order| {
+            raw::check(lent.k, lent.n, points, live, order)
+        })
+    })
 }
 
 /// Compares list, also with the calls that must be answered alike: the answer, and the list buffer afterwards.
@@ -49,6 +75,7 @@ pub fn list(lent: &Lent) -> (raw::Listing, Vec<u32>) {
         lent.n,
         lent.h,
         &lent.points,
+        &lent.live,
         &lent.order,
         &lent.normals,
         &lent.offsets,
@@ -70,6 +97,8 @@ pub fn list(lent: &Lent) -> (raw::Listing, Vec<u32>) {
         listed_alike(why, &other, answer, &ours);
     }
     if answer.code == 0 {
+        let listed = answer.inside + answer.outside;
+        assert_eq!(listed as usize, lent.v(), "the counts of {lent:?}");
         bounds::hold(lent, answer.visits);
     }
     (answer, ours.list)
@@ -78,18 +107,22 @@ pub fn list(lent: &Lent) -> (raw::Listing, Vec<u32>) {
 /// Calls the library's list: the answer, and all that was lent afterwards.
 pub(crate) fn listed(lent: &Lent) -> (raw::Listing, Lent) {
     let mut ours = lent.clone();
-    let answer = lend(lent, &lent.marks, |marks| {
-        raw::list(
-            lent.k,
-            lent.n,
-            lent.h,
-            &ours.points,
-            &ours.order,
-            &ours.normals,
-            &ours.offsets,
-            marks,
-            &mut ours.list,
-        )
+    let list = &mut ours.list;
+    let answer = lend(lent, &lent.live, |live| {
+        lend(lent, &lent.marks, |marks| {
+            raw::list(
+                lent.k,
+                lent.n,
+                lent.h,
+                &ours.points,
+                live,
+                &ours.order,
+                &ours.normals,
+                &ours.offsets,
+                marks,
+                list,
+            )
+        })
     });
     (answer, ours)
 }
@@ -100,7 +133,8 @@ fn listed_alike(why: &str, other: &Lent, answer: raw::Listing, ours: &Lent) {
     assert_eq!(again, answer, "list {why} of {ours:?}");
     kept("list", other, again.code, &other.list, &after.list);
     if answer.code == 0 {
-        let (first, second) = (&ours.list[..ours.n], &after.list[..ours.n]);
+        let v = ours.v();
+        let (first, second) = (&ours.list[..v], &after.list[..v]);
         same(&format!("list {why}"), other, first, second);
     }
 }
@@ -117,6 +151,22 @@ where
     answer
 }
 
+/// Makes a call of the library with points and live bytes so.
+pub(crate) fn lend_live<A>(lent: &Lent, call: impl FnOnce(&[i32], &[u8]) -> A) -> A {
+    lend(lent, &lent.points, |points| {
+        lend(lent, &lent.live, |live| call(points, live))
+    })
+}
+
+/// Makes a call of the library with the three slices of the faces so.
+pub(crate) fn lend_faces<A>(lent: &Lent, call: impl FnOnce(&[i32], &[i64], &[u8]) -> A) -> A {
+    lend(lent, &lent.normals, |normals| {
+        lend(lent, &lent.offsets, |offsets| {
+            lend(lent, &lent.marks, |marks| call(normals, offsets, marks))
+        })
+    })
+}
+
 /// Compares screen, also with the calls that must be answered alike, and holds it to what list answers.
 pub fn screen(lent: &Lent) -> raw::Screening {
     let ours = lent.clone();
@@ -126,6 +176,7 @@ pub fn screen(lent: &Lent) -> raw::Screening {
         lent.n,
         lent.h,
         &lent.points,
+        &lent.live,
         &lent.order,
         &lent.normals,
         &lent.offsets,
@@ -152,17 +203,20 @@ pub fn screen(lent: &Lent) -> raw::Screening {
 
 /// Calls the library's screen.
 fn screened(lent: &Lent) -> raw::Screening {
-    lend(lent, &lent.marks, |marks| {
-        raw::screen(
-            lent.k,
-            lent.n,
-            lent.h,
-            &lent.points,
-            &lent.order,
-            &lent.normals,
-            &lent.offsets,
-            marks,
-        )
+    lend(lent, &lent.live, |live| {
+        lend(lent, &lent.marks, |marks| {
+            raw::screen(
+                lent.k,
+                lent.n,
+                lent.h,
+                &lent.points,
+                live,
+                &lent.order,
+                &lent.normals,
+                &lent.offsets,
+                marks,
+            )
+        })
     })
 }
 
@@ -204,6 +258,7 @@ pub fn explain(lent: &Lent) -> raw::Explaining {
         lent.h,
         lent.number,
         &lent.points,
+        &lent.live,
         &lent.order,
         &lent.normals,
         &lent.offsets,
@@ -224,37 +279,33 @@ pub fn explain(lent: &Lent) -> raw::Explaining {
     answer
 }
 
-/// Calls the library's explain, with other numbers right behind the points and each slice of the faces.
+/// Calls the library's explain, with other numbers right behind the points, the live bytes and each slice of the faces.
 fn explained(lent: &Lent) -> raw::Explaining {
     let Lent {
         k, n, h, number, ..
     } = *lent;
-    lend(lent, &lent.points, |points| {
-        lend(lent, &lent.normals, |normals| {
-            lend(lent, &lent.offsets, |offsets| {
-                lend(lent, &lent.marks, |marks| {
-                    raw::explain(
-                        k,
-                        n,
-                        h,
-                        number,
-                        points,
-                        &lent.order,
-                        normals,
-                        offsets,
-                        marks,
-                    )
-                })
-            })
+    let order = &lent.order;
+    lend_live(lent, |points, live| {
+        lend_faces(lent, |normals, offsets, marks| {
+            raw::explain(
+                k, n, h, number, points, live, order, normals, offsets, marks,
+            )
         })
     })
 }
 
-/// Asks that the library's explain answers alike: in everything with other numbers behind the slices, and with closed faces in place of
-/// open ones in all but the margin to such a face, which is one less.
+/// Asks that the library's explain answers alike: in everything with other numbers behind the slices and with other dead coordinates, and
+/// with closed faces in place of open ones in all but the margin to such a face, which is one less.
 fn explained_alike(lent: &Lent, answer: raw::Explaining) {
     let behind = explained(&lent.with_other_behind());
     assert_eq!(behind, answer, "explain by what is behind of {lent:?}");
+    if let Some(other) = lent.with_other_dead() {
+        let again = explained(&other);
+        assert_eq!(
+            again, answer,
+            "explain by other dead coordinates of {lent:?}"
+        );
+    }
     if let Some(closed) = lent.with_open_as_closed() {
         let face = usize::from(answer.face);
         let outside = answer.reason > raw::INSIDE_BY_ITSELF;
@@ -268,12 +319,12 @@ fn explained_alike(lent: &Lent, answer: raw::Explaining) {
     }
 }
 
-/// Asks that explain answers by the list call with room in its buffer: the same refusal, or 13 where that is done and no point has the
+/// Asks that explain answers by the list call with room in its buffer: the same refusal, or 17 where that is done and no point has the
 /// number; else inside exactly where that lists the number inside.
 fn explained_by_list(lent: &Lent, answer: raw::Explaining) {
     let (listing, inside) = listed_with_room(lent);
     let code = match listing.code {
-        0 if lent.number as usize >= lent.n => 13,
+        0 if !lent.is_live(lent.number) => 17,
         code => code,
     };
     assert_eq!(answer.code, code, "explain by list of {lent:?}");
@@ -327,12 +378,8 @@ fn placed_alike(lent: &Lent, answer: raw::Placing) {
 fn placed(lent: &Lent) -> raw::Placing {
     let Lent { k, h, .. } = *lent;
     lend(lent, &lent.point, |point| {
-        lend(lent, &lent.normals, |normals| {
-            lend(lent, &lent.offsets, |offsets| {
-                lend(lent, &lent.marks, |marks| {
-                    raw::place(k, h, point, normals, offsets, marks)
-                })
-            })
+        lend_faces(lent, |normals, offsets, marks| {
+            raw::place(k, h, point, normals, offsets, marks)
         })
     })
 }
@@ -340,6 +387,7 @@ fn placed(lent: &Lent) -> raw::Placing {
 /// Asks that the two calls left all that was lent alike.
 pub(crate) fn same_lent(call: &str, lent: &Lent, ours: &Lent, theirs: &Lent) {
     same(call, lent, &ours.points, &theirs.points);
+    same(call, lent, &ours.live, &theirs.live);
     same(call, lent, &ours.order, &theirs.order);
     same(call, lent, &ours.normals, &theirs.normals);
     same(call, lent, &ours.offsets, &theirs.offsets);
@@ -347,9 +395,9 @@ pub(crate) fn same_lent(call: &str, lent: &Lent, ours: &Lent, theirs: &Lent) {
     same(call, lent, &ours.point, &theirs.point);
 }
 
-/// Asks that a refused call left every place of its buffer, and a done one those from n on.
+/// Asks that a refused call left every place of its buffer, and a done one those from v on.
 fn kept(call: &str, lent: &Lent, code: u32, before: &[u32], after: &[u32]) {
-    let from = if code == 0 { lent.n } else { 0 };
+    let from = if code == 0 { lent.v() } else { 0 };
     same(call, lent, &after[from..], &before[from..]);
 }
 

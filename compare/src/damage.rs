@@ -1,6 +1,7 @@
 //! Orders that are no longer the tree, damaged in every way.
 
 use crate::chance::Chance;
+use crate::live;
 
 /// A way to damage an order of n numbers. On few points or many ties it may leave the order as it was.
 pub type Damage = (&'static str, fn(&mut Chance, &mut Vec<u32>));
@@ -77,7 +78,10 @@ pub fn ties_the_other_way(k: usize, points: &[i32]) -> Vec<u32> {
     let n = points.len() / k;
     let backwards: Vec<i32> = points.chunks(k).rev().flatten().copied().collect();
     let mut order = vec![0; n];
-    assert_eq!(second::build(k, n, &backwards, &mut order), 0);
+    assert_eq!(
+        second::build(k, n, &backwards, &live::all(n), &mut order),
+        0
+    );
     order.iter().map(|number| n as u32 - 1 - number).collect()
 }
 
@@ -88,7 +92,8 @@ pub fn dimensions_the_other_way(k: usize, points: &[i32]) -> Vec<u32> {
         .flat_map(|point| point.iter().rev())
         .copied()
         .collect();
-    let mut order = vec![0; points.len() / k];
-    assert_eq!(second::build(k, order.len(), &turned, &mut order), 0);
+    let n = points.len() / k;
+    let mut order = vec![0; n];
+    assert_eq!(second::build(k, n, &turned, &live::all(n), &mut order), 0);
     order
 }

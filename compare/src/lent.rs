@@ -1,6 +1,8 @@
 //! What is lent to a call.
 
 use crate::chance::Chance;
+use crate::live;
+use second::live::{belongs, live_numbers, DEAD};
 use second::region::{Face, CLOSED, OPEN};
 use std::fmt;
 
@@ -8,13 +10,14 @@ use std::fmt;
 pub const MOST_OFFSET: i64 = 8_589_934_592;
 
 /// The arguments of all calls for one region: build and check take the first part, the screen all but the list buffer, the explain call the same with the
-/// number, the one-point test the point.
+/// number, withdraw the number and the live bytes, take the point with points and live bytes, the one-point test the point.
 #[derive(Clone, PartialEq, Eq)]
 pub struct Lent {
     pub k: usize,
     pub n: usize,
     pub h: usize,
     pub points: Vec<i32>,
+    pub live: Vec<u8>,
     pub order: Vec<u32>,
     pub normals: Vec<i32>,
     pub offsets: Vec<i64>,
@@ -22,13 +25,13 @@ pub struct Lent {
     pub list: Vec<u32>,
     pub number: u32,
     pub point: Vec<i32>,
-    /// What stands in memory directly behind the marks, and for the one-point test and the explain call behind the points and all slices
-    /// of the faces.
+    /// What stands in memory directly behind the live bytes and the marks, for the one-point test and the explain call behind the points and
+    /// all slices of the faces, and for take behind all slices.
     pub beyond: [u8; 4],
 }
 
 impl Lent {
-    /// These points and no faces, with buffers that hold anything and have some places behind place n.
+    /// These points, all live, and no faces, with buffers that hold anything and have some places behind place n.
     pub fn new(chance: &mut Chance, k: usize, points: Vec<i32>) -> Lent {
         let n = points.len() / k;
         let behind = chance.below(4);
@@ -42,6 +45,7 @@ impl Lent {
             n,
             h: 0,
             points,
+            live: live::all(n),
             order,
             normals: Vec::new(),
             offsets: Vec::new(),
@@ -53,6 +57,34 @@ impl Lent {
         }
     }
 
+    /// v: how many numbers are live.
+    pub fn v(&self) -> usize {
+        live::count(&self.live)
+    }
+
+    /// Whether a number is live.
+    pub fn is_live(&self, number: u32) -> bool {
+        belongs(&self.live, number)
+    }
+
+    /// The live numbers, the lowest first.
+    pub fn live_numbers(&self) -> Vec<u32> {
+        live_numbers(&self.live)
+    }
+
+    /// The coordinates of the live numbers, end to end.
+    pub fn live_points(&self) -> Vec<i32> {
+        let numbers = self.live_numbers().into_iter();
+        numbers
+            .flat_map(|number| self.point_of(number).to_vec())
+            .collect()
+    }
+
+    /// The first v places of the order.
+    pub fn slots(&self) -> &[u32] {
+        &self.order[..self.v()]
+    }
+
     /// The point of this number.
     pub fn point_of(&self, number: u32) -> &[i32] {
         second::shelf::point(self.k, &self.points, number)
@@ -61,6 +93,26 @@ impl Lent {
     /// The faces of an accepted call.
     pub fn faces(&self) -> Vec<Face> {
         second::region::faces(self.k, self.h, &self.normals, &self.offsets, &self.marks)
+    }
+
+    /// The same with these live bytes.
+    pub fn with_live(&self, live: Vec<u8>) -> Lent {
+        Lent {
+            live,
+            ..self.clone()
+        }
+    }
+
+    /// The same with other coordinates for each dead number, where there is one.
+    pub fn with_other_dead(&self) -> Option<Lent> {
+        let mut changed = self.clone();
+        let dead = changed.points.chunks_mut(self.k.max(1)).zip(&self.live);
+        for (point, _) in dead.filter(|(_, byte)| **byte == DEAD) {
+            for x in point {
+                *x = x.wrapping_mul(-65_539).wrapping_add(77_777);
+            }
+        }
+        (changed != *self).then_some(changed)
     }
 
     /// The same with another order in the first places, and what stands behind it kept.
@@ -132,11 +184,11 @@ impl Lent {
         }
     }
 
-    /// The same with other numbers behind place n of both buffers and `beyond` the slices, and other first
+    /// The same with other numbers behind place v of both buffers and `beyond` the slices, and other first
     /// contents of the list buffer.
     pub fn with_other_behind(&self) -> Lent {
         let mut changed = self.clone();
-        let behind = changed.order.iter_mut().skip(self.n);
+        let behind = changed.order.iter_mut().skip(self.v());
         for number in behind.chain(&mut changed.list) {
             *number = number.wrapping_mul(5).wrapping_add(7);
         }
@@ -162,7 +214,9 @@ impl Lent {
         let behind = ("by what is behind", self.with_other_behind());
         let closed = self.with_open_as_closed();
         let closed = closed.map(|other| ("by closed faces in place of open ones", other));
-        [behind].into_iter().chain(closed).collect()
+        let dead = self.with_other_dead();
+        let dead = dead.map(|other| ("by other dead coordinates", other));
+        [behind].into_iter().chain(closed).chain(dead).collect()
     }
 }
 
@@ -181,7 +235,8 @@ impl fmt::Debug for Lent {
         }
         let buffers = (&self.points, &self.order, &self.list);
         let faces = (&self.normals, &self.offsets, &self.marks);
-        write!(out, ", points {:?}, order {:?}", buffers.0, buffers.1)?;
+        write!(out, ", points {:?}, live {:?}", buffers.0, self.live)?;
+        write!(out, ", order {:?}", buffers.1)?;
         write!(out, ", normals {:?}, offsets {:?}", faces.0, faces.1)?;
         write!(out, ", marks {:?}", faces.2)?;
         write!(out, ", list {:?}, point {:?}", buffers.2, self.point)

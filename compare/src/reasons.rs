@@ -13,7 +13,7 @@ fn shelf(lent: &Lent) -> Shelf<'_> {
     Shelf {
         k: lent.k,
         points: &lent.points,
-        slots: &lent.order[..lent.n],
+        slots: lent.slots(),
     }
 }
 
@@ -40,8 +40,8 @@ pub fn face_of_point(lent: &Lent) -> Option<usize> {
 }
 
 /// The node slots of the branches that hold this slot, from the root down.
-fn way(n: usize, slot: usize) -> Vec<usize> {
-    let mut run = Run::root(n);
+fn way(v: usize, slot: usize) -> Vec<usize> {
+    let mut run = Run::root(v);
     let mut nodes = vec![run.node()];
     while run.node() != slot {
         run = match slot < run.node() {
@@ -60,6 +60,7 @@ fn open_slots(lent: &Lent) -> Vec<bool> {
         lent.n,
         lent.h,
         &lent.points,
+        &lent.live,
         &lent.order,
         &lent.normals,
         &lent.offsets,
@@ -108,7 +109,7 @@ fn hold_slot(lent: &Lent, reason: u8, slot: usize) {
     let (open, own) = (open_slots(lent), own(lent));
     let by_itself = [raw::INSIDE_BY_ITSELF, raw::OUTSIDE_BY_ITSELF].contains(&reason);
     assert_eq!(by_itself, open[own], "the own slot {own} of {lent:?}");
-    let nodes = way(lent.n, own);
+    let nodes = way(lent.v(), own);
     let settled = nodes.iter().find(|node| !open[**node]);
     let expected = settled.copied().unwrap_or(own);
     assert_eq!(slot, expected, "the slot of {lent:?}");

@@ -2,7 +2,7 @@
 //! afterwards; and region by region the library held to its own list call.
 
 use crate::bounds;
-use crate::calls::{lend, listed, same, same_lent};
+use crate::calls::{lend, lend_faces, lend_live, listed, same, same_lent};
 use crate::chance::Chance;
 use crate::lent::Lent;
 use hornherder::raw;
@@ -29,29 +29,30 @@ impl Several {
             lent: regions.iter().fold(none, join),
             regions: regions.len(),
             face_counts: regions.iter().map(|region| region.h as u32).collect(),
-            lists: chance.contents(regions.len() * shelf.n + behind[0]),
+            lists: chance.contents(regions.len() * shelf.v() + behind[0]),
             counts: chance.contents(regions.len() * 3 + behind[1]),
         }
     }
 
     /// The same with no place behind those that are asked for.
     pub fn exact(mut self) -> Several {
-        self.lent.order.truncate(self.lent.n);
-        self.lists.truncate(self.regions * self.lent.n);
+        let v = self.lent.v();
+        self.lent.order.truncate(v);
+        self.lists.truncate(self.regions * v);
         self.counts.truncate(self.regions * 3);
         self
     }
 
-    /// The list call for this region of an accepted call alone, with a buffer of n places.
+    /// The list call for this region of an accepted call alone, with a buffer of v places.
     pub fn alone(&self, region: usize) -> Lent {
-        let (k, n) = (self.lent.k, self.lent.n);
+        let (k, v) = (self.lent.k, self.lent.v());
         let start = self.face_counts[..region].iter().sum::<u32>() as usize;
         let end = start + self.face_counts[region] as usize;
         let offsets = self.lent.offsets[start..end].to_vec();
         let normals = self.lent.normals[k * start..k * end].to_vec();
         let mut alone = self.lent.with_faces(normals, offsets);
         alone.marks = self.lent.marks[start..end].to_vec();
-        alone.list = vec![u32::MAX; n];
+        alone.list = vec![u32::MAX; v];
         alone
     }
 
@@ -68,20 +69,21 @@ impl Several {
     /// The calls that must be answered as this one, and in what they differ from it.
     fn alike(&self) -> Vec<(&'static str, Several)> {
         let behind = ("by what is behind", self.with_other_behind());
-        let closed = self.lent.with_open_as_closed().map(|lent| {
-            let other = Several {
-                lent,
-                ..self.clone()
-            };
-            ("by closed faces in place of open ones", other)
-        });
-        [behind].into_iter().chain(closed).collect()
+        let with = |lent| Several {
+            lent,
+            ..self.clone()
+        };
+        let closed = self.lent.with_open_as_closed().map(with);
+        let closed = closed.map(|other| ("by closed faces in place of open ones", other));
+        let dead = self.lent.with_other_dead().map(with);
+        let dead = dead.map(|other| ("by other dead coordinates", other));
+        [behind].into_iter().chain(closed).chain(dead).collect()
     }
 
     /// How many places of both buffers a call with this answer may write.
     fn written(&self, code: u32) -> (usize, usize) {
         match code {
-            0 => (self.regions * self.lent.n, self.regions * 3),
+            0 => (self.regions * self.lent.v(), self.regions * 3),
             _ => (0, 0),
         }
     }
@@ -107,6 +109,7 @@ pub fn list(several: &Several) -> (u32, Vec<u32>, Vec<u32>) {
         lent.n,
         several.regions,
         &lent.points,
+        &lent.live,
         &lent.order,
         &several.face_counts,
         &lent.normals,
@@ -135,26 +138,23 @@ fn regions_listed(several: &Several) -> (u32, Several) {
     let order = &mut ours.lent.order;
     let (lists, counts) = (&mut ours.lists, &mut ours.counts);
     let (lent, regions) = (&several.lent, several.regions);
-    let code = lend(lent, &lent.points, |points| {
+    let code = lend_live(lent, |points, live| {
         lend(lent, &several.face_counts, |face_counts| {
-            lend(lent, &lent.normals, |normals| {
-                lend(lent, &lent.offsets, |offsets| {
-                    lend(lent, &lent.marks, |marks| {
-                        raw::list_regions(
-                            lent.k,
-                            lent.n,
-                            regions,
-                            points,
-                            order,
-                            face_counts,
-                            normals,
-                            offsets,
-                            marks,
-                            lists,
-                            counts,
-                        )
-                    })
-                })
+            lend_faces(lent, |normals, offsets, marks| {
+                raw::list_regions(
+                    lent.k,
+                    lent.n,
+                    regions,
+                    points,
+                    live,
+                    order,
+                    face_counts,
+                    normals,
+                    offsets,
+                    marks,
+                    lists,
+                    counts,
+                )
             })
         })
     });
@@ -181,8 +181,8 @@ fn listed_alike(why: &str, other: &Several, code: u32, ours: &Several) {
     same(why, other, &after.counts[..counts], &ours.counts[..counts]);
 }
 
-/// Asks that a region has what the library's list call gives for its faces alone; that its list holds each number once; and that its visits
-/// are within both bounds.
+/// Asks that a region has what the library's list call gives for its faces alone; that its list holds each live number once; and that its
+/// visits are within both bounds.
 fn as_alone(after: &Several, region: usize) {
     let alone = after.alone(region);
     let (answer, single) = listed(&alone);
@@ -190,12 +190,17 @@ fn as_alone(after: &Several, region: usize) {
     assert_eq!(answer.code, 0, "region {region} alone of {after:?}");
     let counts = &after.counts[3 * region..][..3];
     same("the counts by the list call", after, counts, &three);
-    let list = &after.lists[region * alone.n..][..alone.n];
+    let v = alone.v();
+    let list = &after.lists[region * v..][..v];
     same("the list by the list call", after, list, &single.list);
     let mut numbers = list.to_vec();
     numbers.sort_unstable();
-    let each: Vec<u32> = (0..alone.n as u32).collect();
-    same("the numbers of a region", after, &numbers, &each);
-    assert_eq!(counts[0] + counts[1], alone.n as u32, "{after:?}");
+    same(
+        "the numbers of a region",
+        after,
+        &numbers,
+        &alone.live_numbers(),
+    );
+    assert_eq!(counts[0] + counts[1], v as u32, "{after:?}");
     bounds::hold(&alone, counts[2]);
 }

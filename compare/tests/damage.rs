@@ -4,10 +4,14 @@
 use compare::calls;
 use compare::cases;
 use compare::chance::Chance;
+use compare::changes;
 use compare::damage;
 use compare::faces;
 use compare::lent::Lent;
+use compare::seen::Seen;
+use compare::shelves;
 use compare::stock::Stock;
+use second::live::{DEAD, LIVE};
 use std::collections::BTreeMap;
 
 /// A right shelf of 2 to 200 points with some faces, in this dimension.
@@ -27,7 +31,7 @@ fn refused(shelf: &Lent, order: &[u32]) -> bool {
     assert_eq!(calls::list(&damaged).0.code, code);
     assert_eq!(calls::screen(&damaged).code, code);
     assert_eq!(calls::explain(&damaged).code, code);
-    assert_eq!(code == 9, order != &shelf.order[..shelf.n]);
+    assert_eq!(code == 9, order != shelf.slots());
     code == 9
 }
 
@@ -53,6 +57,105 @@ fn every_way() {
     }
 }
 
+/// A right shelf of 2 to 200 points among dead numbers with some faces, in this dimension.
+fn shelf_with_dead(chance: &mut Chance, k: usize) -> Lent {
+    let right = shelf(chance, k);
+    let mut live = vec![LIVE; right.n];
+    for _ in 0..1 + chance.below(right.n) {
+        live.insert(chance.below(live.len() + 1), DEAD);
+    }
+    let shelf = calls::shelf(&shelves::among_dead(chance, &right, live));
+    let lowest = shelf.live_numbers()[0];
+    shelf.with_number(lowest)
+}
+
+/// The ways of damage that live bytes bring.
+const BY_THE_DEAD: [&str; 7] = [
+    "a dead number",
+    "a dead number in the last slot",
+    "the number n of all",
+    "numbers as if none were dead",
+    "the live numbers in turn",
+    "ties the other way",
+    "dimensions the other way",
+];
+
+/// An order damaged in each of these ways.
+fn by_the_dead(chance: &mut Chance, shelf: &Lent) -> [Vec<u32>; 7] {
+    let dead: Vec<u32> = (0..shelf.n as u32).filter(|p| !shelf.is_live(*p)).collect();
+    let slots = shelf.slots().to_vec();
+    let (slot, last) = (chance.below(slots.len()), slots.len() - 1);
+    let with = |slot: usize, number: u32| {
+        let mut changed = slots.clone();
+        changed[slot] = number;
+        changed
+    };
+    let names = shelf.live_numbers();
+    let named = |order: Vec<u32>| order.iter().map(|p| names[*p as usize]).collect();
+    let (k, points) = (shelf.k, shelf.live_points());
+    [
+        with(slot, chance.one_of(&dead)),
+        with(last, dead[0]),
+        with(slot, shelf.n as u32),
+        (0..=last as u32).collect(),
+        names.clone(),
+        named(damage::ties_the_other_way(k, &points)),
+        named(damage::dimensions_the_other_way(k, &points)),
+    ]
+}
+
+/// Every way of damage to the order of a shelf with dead numbers is refused, but where it leaves the slots as they were.
+#[test]
+fn beside_dead_numbers() {
+    let names = damage::ALL.iter().map(|(name, _)| *name);
+    let mut seen = Seen::new(names.chain(BY_THE_DEAD));
+    cases::make("damaged orders beside dead numbers", 240, |chance, case| {
+        let shelf = shelf_with_dead(chance, 1 + case % 4);
+        let all = damage::ALL.map(|(name, make)| {
+            let mut order = shelf.slots().to_vec();
+            make(chance, &mut order);
+            (name, order)
+        });
+        let by_the_dead = BY_THE_DEAD.into_iter().zip(by_the_dead(chance, &shelf));
+        for (name, order) in all.into_iter().chain(by_the_dead) {
+            if refused(&shelf, &order) {
+                seen.count(name);
+            }
+        }
+    });
+    seen.enough("damaged orders beside dead numbers");
+}
+
+/// The order of before passes or not as the points that are live now say: whichever number of a shelf is withdrawn, and after any other was taken.
+#[test]
+fn orders_of_before() {
+    let names = ["withdrawn: 0", "withdrawn: 9", "taken: 0", "taken: 9"];
+    let mut seen = Seen::new(names);
+    cases::make("orders of before", 400, |chance, case| {
+        let (k, stock) = (1 + case % 4, chance.one_of(&Stock::ALL));
+        let shelf = shelves::with_dead(chance, stock, k, 12);
+        let last_slot = shelf.slots().last().copied();
+        for number in shelf.live_numbers() {
+            let (_, after) = changes::withdraw(&shelf.with_number(number));
+            let code = calls::check(&after);
+            assert_eq!(calls::explain(&after).code == 9, code == 9, "{after:?}");
+            assert!(code == 9 || Some(number) == last_slot, "{after:?}");
+            assert!(code == 0 || k > 1 || Some(number) != last_slot, "{after:?}");
+            seen.count(if code == 0 { names[0] } else { names[1] });
+            let again = Lent {
+                point: shelf.point_of(number).to_vec(),
+                ..after
+            };
+            let (answer, back) = changes::take(&again);
+            let same = answer.number == number;
+            let code = calls::check(&back);
+            assert!(!same || code == 0, "{back:?}");
+            seen.count(if code == 0 { names[2] } else { names[3] });
+        }
+    });
+    seen.enough("orders of before");
+}
+
 /// Of all contents of a small order exactly one is accepted. A wrong one is refused before a number that no point has.
 #[test]
 fn all_contents() {
@@ -66,7 +169,7 @@ fn all_contents() {
             assert_eq!(calls::list(&call).0.code, code);
             assert_eq!(calls::screen(&call).code, code);
             let no_point = call.with_number(n as u32);
-            let expected = if code == 0 { 13 } else { code };
+            let expected = if code == 0 { 17 } else { code };
             assert_eq!(calls::explain(&no_point).code, expected);
             code == 0
         });

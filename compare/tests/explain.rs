@@ -187,7 +187,7 @@ fn all_numbers() {
         let visits = all.iter().filter(by_itself).count();
         assert_eq!(visits, calls::list(&region).0.visits as usize, "{region:?}");
         all.iter().for_each(|it| seen.look(&CASES, it));
-        assert_eq!(calls::explain(&region.with_number(n)).code, 13);
+        assert_eq!(calls::explain(&region.with_number(n)).code, 17);
     });
     seen.enough("all numbers of small shelves");
 }

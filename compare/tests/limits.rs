@@ -16,7 +16,7 @@ fn right(chance: &mut Chance, k: usize, n: usize, h: usize) -> Lent {
 }
 
 /// Asks what build, check, list and the one-point test answer, with the second program as everywhere. The screen and the explain call
-/// answer as list does where the list buffer, which they do not take, has room; but where there is no point, explain refuses with 13.
+/// answer as list does where the list buffer, which they do not take, has room; but where there is no point, explain refuses with 17.
 fn answers(lent: &Lent, build: u32, check: u32, list: u32, place: u32) {
     assert_eq!(calls::build(lent).0, build, "build of {lent:?}");
     assert_eq!(calls::check(lent), check, "check of {lent:?}");
@@ -24,7 +24,7 @@ fn answers(lent: &Lent, build: u32, check: u32, list: u32, place: u32) {
     assert_eq!(calls::place(lent).code, place, "place of {lent:?}");
     if lent.list.len() >= lent.n {
         assert_eq!(calls::screen(lent).code, list, "screen of {lent:?}");
-        let explain = if list == 0 && lent.n == 0 { 13 } else { list };
+        let explain = if list == 0 && lent.n == 0 { 17 } else { list };
         assert_eq!(calls::explain(lent).code, explain, "explain of {lent:?}");
     }
 }
@@ -56,6 +56,7 @@ fn most_points() {
         let mut over = full;
         over.n += 1;
         over.points.extend(vec![0; k]);
+        over.live.push(0);
         over.order.push(65_535);
         over.list.push(0);
         answers(&over, 2, 2, 2, 0);
@@ -91,6 +92,9 @@ fn lengths() {
         length(&right, |lent| shorten(&mut lent.points), [3, 3, 3, 0]);
         length(&right, |lent| lent.point.push(0), [0, 0, 0, 3]);
         length(&right, |lent| shorten(&mut lent.point), [0, 0, 0, 3]);
+        length(&right, |lent| lent.live.push(0), [15, 15, 15, 0]);
+        length(&right, |lent| shorten(&mut lent.live), [15, 15, 15, 0]);
+        length(&right, |lent| lent.live.clear(), [15, 15, 15, 0]);
         length(&right, |lent| lent.order.push(77), [0, 0, 0, 0]);
         length(&right, |lent| shorten(&mut lent.order), [4, 4, 4, 0]);
         length(&right, |lent| lent.list.push(77), [0, 0, 0, 0]);
@@ -172,7 +176,7 @@ fn numbers() {
         let right = right(&mut chance, k, n, 3);
         let number = n as u32;
         let beyond = [number, number + 1, 65_535, 65_536, 65_537, u32::MAX];
-        let refused = beyond.map(|number| (number, 13));
+        let refused = beyond.map(|number| (number, 17));
         let passed = number.checked_sub(1).map(|last| [(0, 0), (last, 0)]);
         for (number, code) in passed.into_iter().flatten().chain(refused) {
             let lent = right.with_number(number);

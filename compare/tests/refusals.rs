@@ -4,8 +4,11 @@ use compare::calls;
 use compare::cases;
 use compare::chance::Chance;
 use compare::faces;
+use compare::faults::{first, first_in_order, last, two_or_three};
 use compare::lent::{shorten, Lent};
 use compare::seen::Seen;
+use compare::shelves;
+use second::live::{DEAD, LIVE};
 use second::region::{CLOSED, OPEN};
 
 /// The calls, as parts of a sum.
@@ -21,19 +24,19 @@ const ORDER: u8 = CHECK | LIST | SCREEN | EXPLAIN;
 
 /// Each call: its name, its part of the sum, and the numbers that it may refuse with, in the order of its tests.
 const CALLS: [(&str, u8, &[u32]); 6] = [
-    ("build", BUILD, &[1, 2, 3, 4, 5]),
-    ("check", CHECK, &[1, 2, 3, 4, 5, 9]),
-    ("list", LIST, &[1, 2, 3, 4, 5, 6, 7, 8, 11, 9]),
+    ("build", BUILD, &[1, 2, 3, 15, 4, 5]),
+    ("check", CHECK, &[1, 2, 3, 15, 4, 5, 9]),
+    ("list", LIST, &[1, 2, 3, 15, 4, 5, 6, 7, 8, 11, 9]),
     ("place", PLACE, &[1, 3, 5, 6, 7, 8, 11]),
-    ("screen", SCREEN, &[1, 2, 3, 4, 5, 6, 7, 8, 11, 9]),
-    ("explain", EXPLAIN, &[1, 2, 3, 4, 5, 6, 7, 8, 11, 9, 13]),
+    ("screen", SCREEN, &[1, 2, 3, 15, 4, 5, 6, 7, 8, 11, 9]),
+    ("explain", EXPLAIN, &[1, 2, 3, 15, 4, 5, 6, 7, 8, 11, 9, 17]),
 ];
 
 /// A fault: the number that it is refused with, the calls that refuse it, and how it is made.
 type Fault = (u32, u8, fn(&mut Lent));
 
 /// Every fault.
-const FAULTS: [Fault; 42] = [
+const FAULTS: [Fault; 49] = [
     (1, SHELF | PLACE, |lent| lent.k = 0),
     (1, SHELF | PLACE, |lent| lent.k = 5),
     (1, SHELF | PLACE, |lent| lent.k = usize::MAX),
@@ -44,6 +47,13 @@ const FAULTS: [Fault; 42] = [
     (3, SHELF, |lent| lent.points.clear()),
     (3, PLACE, |lent| lent.point.push(0)),
     (3, PLACE, |lent| shorten(&mut lent.point)),
+    (15, SHELF, |lent| lent.live.push(LIVE)),
+    (15, SHELF, |lent| lent.live.push(DEAD)),
+    (15, SHELF, |lent| shorten(&mut lent.live)),
+    (15, SHELF, |lent| lent.live.clear()),
+    (15, SHELF, |lent| first(&mut lent.live, 2)),
+    (15, SHELF, |lent| last(&mut lent.live, 2)),
+    (15, SHELF, |lent| last(&mut lent.live, 255)),
     (4, SHELF, |lent| lent.order.truncate(2)),
     (4, SHELF, |lent| lent.order.clear()),
     (4, LIST, |lent| lent.list.truncate(2)),
@@ -76,27 +86,14 @@ const FAULTS: [Fault; 42] = [
         let number = lent.order.get(1).copied().unwrap_or(0);
         first(&mut lent.order, number)
     }),
-    (13, EXPLAIN, |lent| lent.number = 3),
-    (13, EXPLAIN, |lent| lent.number = 65_536),
-    (13, EXPLAIN, |lent| lent.number = u32::MAX),
+    (17, EXPLAIN, |lent| lent.number = 3),
+    (17, EXPLAIN, |lent| lent.number = 65_536),
+    (17, EXPLAIN, |lent| lent.number = u32::MAX),
 ];
 
-/// Puts a number in the first place, if there is one.
-fn first<T>(places: &mut [T], number: T) {
-    if let Some(place) = places.first_mut() {
-        *place = number;
-    }
-}
-
-/// Puts a number in the last place, if there is one.
-fn last<T>(places: &mut [T], number: T) {
-    if let Some(place) = places.last_mut() {
-        *place = number;
-    }
-}
-
-/// A right call: three points, two faces, and no place behind place n. Once both faces are closed, once the first is open.
-fn right(chance: &mut Chance, k: usize) -> [Lent; 2] {
+/// A right call: three points, two faces, and no place behind the last live number. Once both faces are closed, once the first is open, and
+/// once there are two dead numbers, 1 and 3, among five.
+fn right(chance: &mut Chance, k: usize) -> [Lent; 3] {
     let points = (0..3 * k).map(|i| (i * 7 % 5) as i32).collect();
     let mut lent = Lent::new(chance, k, points);
     lent.order.truncate(3);
@@ -104,19 +101,9 @@ fn right(chance: &mut Chance, k: usize) -> [Lent; 2] {
     let (normals, offsets) = faces::region(chance, k, &lent.points, 2);
     let closed = calls::shelf(&lent).with_faces(normals, offsets);
     let marked = closed.with_marks(vec![OPEN, CLOSED]);
-    [closed, marked]
-}
-
-/// The number that a call refuses faults with, the first in the order of its tests: 0 where it refuses none, nothing where two
-/// faults have that number and may undo each other.
-fn first_in_order(faults: &[Fault], call: u8, tests: &[u32]) -> Option<u32> {
-    let concerned = faults.iter().filter(|(_, calls, _)| calls & call != 0);
-    let numbers: Vec<u32> = concerned.map(|(number, _, _)| *number).collect();
-    let times = |number: &u32| numbers.iter().filter(|held| *held == number).count();
-    match tests.iter().find(|number| times(number) > 0) {
-        None => Some(0),
-        Some(number) => (times(number) == 1).then_some(*number),
-    }
+    let live = vec![LIVE, DEAD, LIVE, DEAD, LIVE];
+    let dead = calls::shelf(&shelves::among_dead(chance, &marked, live));
+    [closed, marked, dead]
 }
 
 /// How often each call answers each of its numbers.
@@ -142,7 +129,9 @@ fn refused(right: &Lent, faults: &[Fault], seen: &mut Seen<(&'static str, u32)>)
             SCREEN => calls::screen(&lent).code,
             _ => calls::explain(&lent).code,
         };
-        if let Some(number) = first_in_order(faults, call, tests) {
+        let concerned = faults.iter().filter(|(_, calls, _)| calls & call != 0);
+        let numbers: Vec<u32> = concerned.map(|(number, _, _)| *number).collect();
+        if let Some(number) = first_in_order(&numbers, tests) {
             assert_eq!(code, number, "{name} of {lent:?}");
         }
         seen.count((name, code));
@@ -164,25 +153,13 @@ fn one_fault() {
     seen.enough("one fault");
 }
 
-/// Compares all calls on a right call with every two and every three faults.
-fn two_or_three(right: &Lent, seen: &mut Seen<(&'static str, u32)>) {
-    for (a, first) in FAULTS.iter().enumerate() {
-        for (b, second) in FAULTS.iter().enumerate().skip(a + 1) {
-            refused(right, &[*first, *second], seen);
-            for third in &FAULTS[b + 1..] {
-                refused(right, &[*first, *second, *third], seen);
-            }
-        }
-    }
-}
-
 /// Every two and every three faults at once, in each dimension.
 #[test]
 fn two_or_three_faults() {
     let mut seen = answers();
     cases::make("two or three faults", 4, |chance, case| {
         for right in right(chance, 1 + case % 4) {
-            two_or_three(&right, &mut seen);
+            two_or_three(&FAULTS, |some| refused(&right, some, &mut seen));
         }
     });
     seen.enough("two or three faults");

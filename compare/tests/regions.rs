@@ -5,10 +5,13 @@ use compare::cases;
 use compare::chance::Chance;
 use compare::damage;
 use compare::faces;
+use compare::faults::{first, first_in_order, last, two_or_three};
 use compare::lent::{shorten, Lent};
 use compare::seen::{Case, Seen};
 use compare::several::{self, Several};
+use compare::shelves;
 use compare::stock::Stock;
+use second::live::{DEAD, LIVE};
 use second::region::{CLOSED, OPEN};
 
 /// The least and the greatest number of regions.
@@ -246,10 +249,12 @@ fn lengths() {
     let mut chance = Chance::new(cases::SEED);
     for (k, regions) in [(1, 1), (2, 3), (3, 17), (4, 64)] {
         let right = right(&mut chance, k, regions, 3);
-        let lengths: [Fault; 17] = [
+        let lengths: [Fault; 19] = [
             (0, |_| ()),
             (3, |call| call.lent.points.push(0)),
             (3, |call| shorten(&mut call.lent.points)),
+            (15, |call| call.lent.live.push(0)),
+            (15, |call| shorten(&mut call.lent.live)),
             (0, |call| call.lent.order.push(77)),
             (4, |call| shorten(&mut call.lent.order)),
             (0, |call| call.lists.push(77)),
@@ -313,10 +318,10 @@ fn points() {
 type Fault = (u32, fn(&mut Several));
 
 /// The numbers that the call refuses with, in the order of its tests.
-const TESTS: [u32; 11] = [1, 2, 3, 14, 4, 5, 6, 7, 8, 11, 9];
+const TESTS: [u32; 12] = [1, 2, 3, 15, 14, 4, 5, 6, 7, 8, 11, 9];
 
 /// Every fault.
-const FAULTS: [Fault; 50] = [
+const FAULTS: [Fault; 56] = [
     (1, |call| call.lent.k = 0),
     (1, |call| call.lent.k = 5),
     (1, |call| call.lent.k = usize::MAX),
@@ -325,6 +330,12 @@ const FAULTS: [Fault; 50] = [
     (3, |call| call.lent.points.push(0)),
     (3, |call| shorten(&mut call.lent.points)),
     (3, |call| call.lent.points.clear()),
+    (15, |call| call.lent.live.push(LIVE)),
+    (15, |call| call.lent.live.push(DEAD)),
+    (15, |call| shorten(&mut call.lent.live)),
+    (15, |call| call.lent.live.clear()),
+    (15, |call| first(&mut call.lent.live, 2)),
+    (15, |call| last(&mut call.lent.live, 255)),
     (14, |call| call.regions = 0),
     (14, |call| call.regions = 2),
     (14, |call| call.regions = 4),
@@ -384,36 +395,16 @@ const FAULTS: [Fault; 50] = [
     }),
 ];
 
-/// Puts a number in the first place, if there is one.
-fn first<T>(places: &mut [T], number: T) {
-    if let Some(place) = places.first_mut() {
-        *place = number;
-    }
-}
-
-/// Puts a number in the last place, if there is one.
-fn last<T>(places: &mut [T], number: T) {
-    if let Some(place) = places.last_mut() {
-        *place = number;
-    }
-}
-
-/// A right call of three points and three regions, with no place behind those that are asked for.
-fn three_regions(chance: &mut Chance, k: usize) -> Several {
+/// A right call of three points and three regions, with no place behind those that are asked for: all live, and among two dead numbers.
+fn three_regions(chance: &mut Chance, k: usize) -> [Several; 2] {
     let points = (0..3 * k).map(|i| (i * 7 % 5) as i32).collect();
     let shelf = calls::shelf(&Lent::new(chance, k, points));
     let regions = [2, 1, 2].map(|h| region(chance, &shelf, h));
-    Several::new(chance, &shelf, &regions).exact()
-}
-
-/// The number that faults are refused with, the first in the order of the tests: 0 where there are none, nothing where two have that
-/// number and may undo each other.
-fn first_in_order(faults: &[Fault]) -> Option<u32> {
-    let times = |number: &u32| faults.iter().filter(|(held, _)| held == number).count();
-    match TESTS.iter().find(|number| times(number) > 0) {
-        None => Some(0),
-        Some(number) => (times(number) == 1).then_some(*number),
-    }
+    let all = Several::new(chance, &shelf, &regions).exact();
+    let live = vec![LIVE, DEAD, LIVE, DEAD, LIVE];
+    let dead = calls::shelf(&shelves::among_dead(chance, &shelf, live));
+    let dead = Several::new(chance, &dead, &regions).exact();
+    [all, dead]
 }
 
 /// How often the call answers each of its numbers.
@@ -428,7 +419,8 @@ fn refused(right: &Several, faults: &[Fault], seen: &mut Seen<u32>) {
         make(&mut call);
     }
     let code = several::list(&call).0;
-    if let Some(number) = first_in_order(faults) {
+    let numbers: Vec<u32> = faults.iter().map(|(number, _)| *number).collect();
+    if let Some(number) = first_in_order(&numbers, &TESTS) {
         assert_eq!(code, number, "{call:?}");
     }
     seen.count(code);
@@ -439,25 +431,14 @@ fn refused(right: &Several, faults: &[Fault], seen: &mut Seen<u32>) {
 fn one_fault() {
     let mut seen = numbers();
     cases::make("one fault in several regions", 80, |chance, case| {
-        let right = three_regions(chance, 1 + case % 4);
-        refused(&right, &[], &mut seen);
-        for fault in FAULTS {
-            refused(&right, &[fault], &mut seen);
+        for right in three_regions(chance, 1 + case % 4) {
+            refused(&right, &[], &mut seen);
+            for fault in FAULTS {
+                refused(&right, &[fault], &mut seen);
+            }
         }
     });
     seen.enough("one fault in several regions");
-}
-
-/// Compares a right call with every two and every three faults.
-fn two_or_three(right: &Several, seen: &mut Seen<u32>) {
-    for (a, one) in FAULTS.iter().enumerate() {
-        for (b, two) in FAULTS.iter().enumerate().skip(a + 1) {
-            refused(right, &[*one, *two], seen);
-            for three in &FAULTS[b + 1..] {
-                refused(right, &[*one, *two, *three], seen);
-            }
-        }
-    }
 }
 
 /// Every two and every three faults at once, in each dimension.
@@ -465,7 +446,9 @@ fn two_or_three(right: &Several, seen: &mut Seen<u32>) {
 fn two_or_three_faults() {
     let mut seen = numbers();
     cases::make("faults in several regions", 12, |chance, case| {
-        two_or_three(&three_regions(chance, 1 + case % 4), &mut seen);
+        for right in three_regions(chance, 1 + case % 4) {
+            two_or_three(&FAULTS, |some| refused(&right, some, &mut seen));
+        }
     });
     seen.enough("faults in several regions");
 }

@@ -1,8 +1,8 @@
-//! The numbers of the visit bound.
+//! The numbers of the visit bound, for a shelf of `v` live points.
 
-/// H: the number of binary digits of `n`, 0 for 0.
-pub fn binary_digits(n: usize) -> usize {
-    let mut rest = n;
+/// H: the number of binary digits of `v`, 0 for 0.
+pub fn binary_digits(v: usize) -> usize {
+    let mut rest = v;
     let mut digits = 0;
     while rest > 0 {
         rest /= 2;
@@ -11,13 +11,13 @@ pub fn binary_digits(n: usize) -> usize {
     digits
 }
 
-/// S(n, k): the sum over j = 0 to H-1 of 2 to the power (j minus j/k rounded
+/// S(v, k): the sum over j = 0 to H-1 of 2 to the power (j minus j/k rounded
 /// down). It has no meaning for k = 0; 0 is given then.
-pub fn s(n: usize, k: usize) -> u64 {
+pub fn s(v: usize, k: usize) -> u64 {
     if k == 0 {
         return 0;
     }
-    (0..binary_digits(n)).map(|j| 1u64 << (j - j / k)).sum()
+    (0..binary_digits(v)).map(|j| 1u64 << (j - j / k)).sum()
 }
 
 /// Whether a face with this normal is square: at most one component is not 0.

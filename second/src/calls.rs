@@ -1,15 +1,16 @@
-//! The ten calls, and functions that look at the visits behind a list.
+//! The twelve calls, and functions that look at the visits behind a list.
 
 use crate::found::{found_number, visits_of_screen};
 use crate::joined::{counts_of_regions, faces_of_regions, places_of_regions};
 use crate::lists::{inside_and_outside, places};
+use crate::live::{lowest_dead, total_live, DEAD, LIVE};
 use crate::margin::{face_of_margin, margin};
 use crate::order::built_order;
 use crate::reading::{point_of_reading, Colour, Reading};
 use crate::reason::{margin_to_face, why};
 use crate::refusals;
 use crate::region::{faces, inside};
-use crate::shelf::Shelf;
+use crate::shelf::{coordinates_of, Shelf};
 use crate::visits;
 
 /// The answer of list; on a refusal all but the code is 0.
@@ -62,27 +63,35 @@ pub struct Explaining {
     pub margin: i64,
 }
 
-/// Writes the order of the points into the first `n` places of `order`.
-pub fn build(k: usize, n: usize, points: &[i32], order: &mut [u32]) -> u32 {
-    let code = refusals::of_build(k, n, points, order);
+/// The answer of take: the number taken; on a refusal it is 0.
+#[derive(Clone, Copy, Debug, Default, PartialEq, Eq)]
+pub struct Taking {
+    pub code: u32,
+    pub number: u32,
+}
+
+/// Writes the order of the live points into the first v places of `order`.
+pub fn build(k: usize, n: usize, points: &[i32], live: &[u8], order: &mut [u32]) -> u32 {
+    let code = refusals::of_build(k, n, points, live, order);
     if code == 0 {
-        order[..n].copy_from_slice(&built_order(k, n, points));
+        order[..total_live(live)].copy_from_slice(&built_order(k, points, live));
     }
     code
 }
 
-/// Says 0 exactly when the first `n` places of `order` are the built order.
-pub fn check(k: usize, n: usize, points: &[i32], order: &[u32]) -> u32 {
-    refusals::of_check(k, n, points, order)
+/// Says 0 exactly when the first v places of `order` are the built order.
+pub fn check(k: usize, n: usize, points: &[i32], live: &[u8], order: &[u32]) -> u32 {
+    refusals::of_check(k, n, points, live, order)
 }
 
-/// Writes the inside and outside numbers into the first `n` places of `list`.
+/// Writes the inside and outside numbers into the first v places of `list`.
 #[allow(clippy::too_many_arguments)]
 pub fn list(
     k: usize,
     n: usize,
     h: usize,
     points: &[i32],
+    live: &[u8],
     order: &[u32],
     normals: &[i32],
     offsets: &[i64],
@@ -90,18 +99,20 @@ pub fn list(
     list: &mut [u32],
 ) -> Listing {
     let length = list.len();
-    let code = refusals::of_list(k, n, h, points, order, normals, offsets, marks, length);
+    let code = refusals::of_list(
+        k, n, h, points, live, order, normals, offsets, marks, length,
+    );
     if code != 0 {
         return Listing {
             code,
             ..Listing::default()
         };
     }
-    let slots = &order[..n];
+    let slots = &order[..total_live(live)];
     let shelf = Shelf { k, points, slots };
     let faces = faces(k, h, normals, offsets, marks);
     let (within, without) = inside_and_outside(&shelf, &faces);
-    list[..n].copy_from_slice(&places(&within, &without));
+    list[..slots.len()].copy_from_slice(&places(&within, &without));
     Listing {
         code: 0,
         inside: within.len() as u32,
@@ -117,19 +128,20 @@ pub fn screen(
     n: usize,
     h: usize,
     points: &[i32],
+    live: &[u8],
     order: &[u32],
     normals: &[i32],
     offsets: &[i64],
     marks: &[u8],
 ) -> Screening {
-    let code = refusals::of_screen(k, n, h, points, order, normals, offsets, marks);
+    let code = refusals::of_screen(k, n, h, points, live, order, normals, offsets, marks);
     if code != 0 {
         return Screening {
             code,
             ..Screening::default()
         };
     }
-    let slots = &order[..n];
+    let slots = &order[..total_live(live)];
     let shelf = Shelf { k, points, slots };
     let faces = faces(k, h, normals, offsets, marks);
     let number = found_number(&shelf, &faces);
@@ -177,22 +189,25 @@ pub fn explain(
     h: usize,
     number: u32,
     points: &[i32],
+    live: &[u8],
     order: &[u32],
     normals: &[i32],
     offsets: &[i64],
     marks: &[u8],
 ) -> Explaining {
-    let code = refusals::of_explain(k, n, h, number, points, order, normals, offsets, marks);
+    let code = refusals::of_explain(
+        k, n, h, number, points, live, order, normals, offsets, marks,
+    );
     if code != 0 {
         return Explaining {
             code,
             ..Explaining::default()
         };
     }
-    let slots = &order[..n];
+    let slots = &order[..total_live(live)];
     let shelf = Shelf { k, points, slots };
     let faces = faces(k, h, normals, offsets, marks);
-    let why = why(&shelf, &faces, number).expect("a tree's slots hold every number below n");
+    let why = why(&shelf, &faces, number).expect("a tree's slots hold every live number");
     Explaining {
         code: 0,
         reason: why.reason,
@@ -202,7 +217,7 @@ pub fn explain(
     }
 }
 
-/// Writes the places of all regions into `lists`, n for each, and their counts
+/// Writes the places of all regions into `lists`, v for each, and their counts
 /// (inside, outside, visits) into `counts`, three for each, region after region.
 #[allow(clippy::too_many_arguments)]
 pub fn list_regions(
@@ -210,6 +225,7 @@ pub fn list_regions(
     n: usize,
     regions: usize,
     points: &[i32],
+    live: &[u8],
     order: &[u32],
     face_counts: &[u32],
     normals: &[i32],
@@ -223,6 +239,7 @@ pub fn list_regions(
         n,
         regions,
         points,
+        live,
         order,
         face_counts,
         normals,
@@ -232,10 +249,10 @@ pub fn list_regions(
         counts.len(),
     );
     if code == 0 {
-        let slots = &order[..n];
+        let slots = &order[..total_live(live)];
         let shelf = Shelf { k, points, slots };
         let all = faces_of_regions(k, face_counts, normals, offsets, marks);
-        lists[..regions * n].copy_from_slice(&places_of_regions(&shelf, &all));
+        lists[..regions * slots.len()].copy_from_slice(&places_of_regions(&shelf, &all));
         counts[..regions * 3].copy_from_slice(&counts_of_regions(&shelf, &all));
     }
     code
@@ -279,6 +296,28 @@ fn point_from_reading(reading: Reading, place: &mut [i32]) -> Making {
     }
 }
 
+/// Writes the point at the lowest dead number, makes that number live and gives
+/// it. The order is not touched.
+pub fn take(k: usize, n: usize, points: &mut [i32], live: &mut [u8], point: &[i32]) -> Taking {
+    let code = refusals::of_take(k, n, points, live, point);
+    if code != 0 {
+        return Taking { code, number: 0 };
+    }
+    let number = lowest_dead(live).expect("a take with none dead is refused");
+    points[coordinates_of(k, number)].copy_from_slice(point);
+    live[number as usize] = LIVE;
+    Taking { code: 0, number }
+}
+
+/// Makes the live number dead. Neither points nor order are touched.
+pub fn withdraw(n: usize, number: u32, live: &mut [u8]) -> u32 {
+    let code = refusals::of_withdraw(n, number, live);
+    if code == 0 {
+        live[number as usize] = DEAD;
+    }
+    code
+}
+
 /// For each slot, in slot order, whether its branch is open for the region. An
 /// error holds the number that list would refuse with.
 #[allow(clippy::too_many_arguments)]
@@ -287,14 +326,15 @@ pub fn open_slots(
     n: usize,
     h: usize,
     points: &[i32],
+    live: &[u8],
     order: &[u32],
     normals: &[i32],
     offsets: &[i64],
     marks: &[u8],
 ) -> Result<Vec<bool>, u32> {
-    match refusals::of_list(k, n, h, points, order, normals, offsets, marks, n) {
+    match refusals::of_list(k, n, h, points, live, order, normals, offsets, marks, n) {
         0 => {
-            let slots = &order[..n];
+            let slots = &order[..total_live(live)];
             let shelf = Shelf { k, points, slots };
             let faces = faces(k, h, normals, offsets, marks);
             Ok(visits::open_slots(&shelf, &faces))
@@ -311,25 +351,28 @@ pub fn visits_of_region(
     n: usize,
     h: usize,
     points: &[i32],
+    live: &[u8],
     order: &[u32],
     normals: &[i32],
     offsets: &[i64],
     marks: &[u8],
 ) -> Result<u32, u32> {
-    let open = open_slots(k, n, h, points, order, normals, offsets, marks)?;
+    let open = open_slots(k, n, h, points, live, order, normals, offsets, marks)?;
     Ok(open.into_iter().filter(|&is_open| is_open).count() as u32)
 }
 
 /// The visits of one face, its normal, offset m and mark, taken as a region
 /// alone. An error holds the number that list would refuse with.
+#[allow(clippy::too_many_arguments)]
 pub fn visits_of_face(
     k: usize,
     n: usize,
     points: &[i32],
+    live: &[u8],
     order: &[u32],
     normal: &[i32],
     m: i64,
     mark: u8,
 ) -> Result<u32, u32> {
-    visits_of_region(k, n, 1, points, order, normal, &[m], &[mark])
+    visits_of_region(k, n, 1, points, live, order, normal, &[m], &[mark])
 }

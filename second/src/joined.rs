@@ -34,13 +34,13 @@ fn faces_of_one(face_counts: &[u32], joined: &[Face], region: usize) -> Vec<Face
     joined[before..before + count].to_vec()
 }
 
-/// The places of all regions, each region's n after those of the region before.
+/// The places of all regions, each region's v after those of the region before.
 pub fn places_of_regions(shelf: &Shelf, regions: &[Vec<Face>]) -> Vec<u32> {
     let each = regions.iter().map(|faces| places_of_one(shelf, faces));
     each.flatten().collect()
 }
 
-/// The n places of one region, as its list alone has them.
+/// The v places of one region, as its list alone has them.
 fn places_of_one(shelf: &Shelf, faces: &[Face]) -> Vec<u32> {
     let (within, without) = inside_and_outside(shelf, faces);
     places(&within, &without)

@@ -7,6 +7,7 @@ pub mod exact;
 pub mod found;
 pub mod joined;
 pub mod lists;
+pub mod live;
 pub mod margin;
 pub mod order;
 pub mod reading;
@@ -20,7 +21,7 @@ pub mod visits;
 pub use bound::{binary_digits, is_square, s};
 pub use calls::{
     build, check, explain, list, list_regions, open_slots, place, point_from_colour,
-    point_from_grey, point_from_nothing, screen, visits_of_face, visits_of_region, Explaining,
-    Listing, Making, Placing, Screening,
+    point_from_grey, point_from_nothing, screen, take, visits_of_face, visits_of_region, withdraw,
+    Explaining, Listing, Making, Placing, Screening, Taking,
 };
 pub use text::shelf_text;

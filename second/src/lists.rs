@@ -13,7 +13,7 @@ pub fn inside_and_outside(shelf: &Shelf, faces: &[Face]) -> (Vec<u32>, Vec<u32>)
     (numbers(within), numbers(without))
 }
 
-/// Places 0 to n-1 of the list buffer: inside numbers from the front, outside
+/// Places 0 to v-1 of the list buffer: inside numbers from the front, outside
 /// numbers from the last place backwards.
 pub fn places(inside: &[u32], outside: &[u32]) -> Vec<u32> {
     let backwards = outside.iter().rev();

@@ -1,10 +1,11 @@
 //! The one order of a shelf, and the comparison of slots with it.
 
+use crate::live::{live_numbers, total_live};
 use crate::shelf::point;
 
-/// The order of these `n` points: the number in each slot.
-pub fn built_order(k: usize, n: usize, points: &[i32]) -> Vec<u32> {
-    built_branch(k, points, (0..n as u32).collect(), 0)
+/// The order of the live points: the number in each of the first v slots.
+pub fn built_order(k: usize, points: &[i32], live: &[u8]) -> Vec<u32> {
+    built_branch(k, points, live_numbers(live), 0)
 }
 
 /// The slots of the branch at this depth that holds these numbers. The run is
@@ -25,7 +26,7 @@ fn built_branch(k: usize, points: &[i32], mut run: Vec<u32>, depth: usize) -> Ve
     slots
 }
 
-/// Whether the first `n` slots of this order are the tree of these points.
-pub fn is_tree(k: usize, n: usize, points: &[i32], order: &[u32]) -> bool {
-    order[..n] == built_order(k, n, points)[..]
+/// Whether the first v slots of this order are the tree of the live points.
+pub fn is_tree(k: usize, points: &[i32], live: &[u8], order: &[u32]) -> bool {
+    order[..total_live(live)] == built_order(k, points, live)[..]
 }

@@ -31,14 +31,14 @@ pub fn own_slot(shelf: &Shelf, number: u32) -> Option<usize> {
     shelf.slots.iter().position(|&held| held == number)
 }
 
-/// All branches of a shelf of `n` points, in the order of their node slots.
-pub fn branches(n: usize) -> Vec<Run> {
-    (0..n).map(|node| branch_of_node(n, node)).collect()
+/// All branches of a shelf of `v` live points, in the order of their node slots.
+pub fn branches(v: usize) -> Vec<Run> {
+    (0..v).map(|node| branch_of_node(v, node)).collect()
 }
 
 /// The branch whose node is in this slot, from the root down.
-fn branch_of_node(n: usize, node: usize) -> Run {
-    let mut run = Run::root(n);
+fn branch_of_node(v: usize, node: usize) -> Run {
+    let mut run = Run::root(v);
     while node != run.node() {
         run = match node < run.node() {
             true => run.left(),

@@ -1,9 +1,11 @@
 //! The table of numbers returned, test by test.
 
 use crate::joined::total_of_faces;
+use crate::live::{belongs, live_numbers, lowest_dead, total_live, DEAD, LIVE};
 use crate::order::is_tree;
 use crate::reading::{number_of_value, values, Reading};
 use crate::region::{CLOSED, OPEN};
+use crate::shelf::point;
 
 /// One test of the table: its number, and whether it holds.
 type Test<'a> = (u32, &'a dyn Fn() -> bool);
@@ -30,9 +32,9 @@ pub fn not_times_long(length: usize, a: usize, b: usize) -> bool {
     length as u128 != a as u128 * b as u128
 }
 
-/// Number 4: the order or the list buffer is shorter than n.
-pub fn shorter(length: usize, n: usize) -> bool {
-    length < n
+/// Number 4: the order or the list buffer is shorter than v.
+pub fn shorter(length: usize, live: &[u8]) -> bool {
+    length < total_live(live)
 }
 
 /// Number 4 of several regions: a buffer is shorter than `each` places a region.
@@ -41,8 +43,14 @@ pub fn shorter_for_each(length: usize, regions: usize, each: usize) -> bool {
 }
 
 /// Number 5: a coordinate is not -32,768 to 32,767.
-pub fn coordinate_wrong(points: &[i32]) -> bool {
-    points.iter().any(|x| !(-32_768..=32_767).contains(x))
+pub fn coordinate_wrong(x: &[i32]) -> bool {
+    x.iter().any(|x| !(-32_768..=32_767).contains(x))
+}
+
+/// Number 5 of a shelf: it asks the live points and passes over the dead ones.
+pub fn live_coordinate_wrong(k: usize, points: &[i32], live: &[u8]) -> bool {
+    let mut numbers = live_numbers(live).into_iter();
+    numbers.any(|number| coordinate_wrong(point(k, points, number)))
 }
 
 /// Number 6: h is over 32.
@@ -82,48 +90,62 @@ pub fn value_wrong(reading: Reading) -> bool {
     values(reading).into_iter().any(wrong)
 }
 
-/// Number 13: the number asked about is n or more.
-pub fn number_wrong(n: usize, number: u32) -> bool {
-    number as usize >= n
-}
-
 /// Number 14: the region count is not 1 to 64, or the face counts are not as many
 /// as the regions.
 pub fn regions_wrong(regions: usize, face_counts: &[u32]) -> bool {
     !(1..=64).contains(&regions) || face_counts.len() != regions
 }
 
-/// What build returns: tests 1 to 5.
-pub fn of_build(k: usize, n: usize, points: &[i32], order: &[u32]) -> u32 {
+/// Number 15: the live bytes are not n long, or one says neither dead nor live.
+pub fn live_wrong(n: usize, live: &[u8]) -> bool {
+    let another = |&byte: &u8| byte != DEAD && byte != LIVE;
+    live.len() != n || live.iter().any(another)
+}
+
+/// Number 16: no number is dead, so that none is free to be taken.
+pub fn none_dead(live: &[u8]) -> bool {
+    lowest_dead(live).is_none()
+}
+
+/// Number 17: the number is dead or not below n.
+pub fn number_wrong(live: &[u8], number: u32) -> bool {
+    !belongs(live, number)
+}
+
+/// What build returns: tests 1 to 3, then 15, then 4 and 5.
+pub fn of_build(k: usize, n: usize, points: &[i32], live: &[u8], order: &[u32]) -> u32 {
     first_held(&[
         (1, &|| dimension_wrong(k)),
         (2, &|| too_many_points(n)),
         (3, &|| not_times_long(points.len(), k, n)),
-        (4, &|| shorter(order.len(), n)),
-        (5, &|| coordinate_wrong(points)),
+        (15, &|| live_wrong(n, live)),
+        (4, &|| shorter(order.len(), live)),
+        (5, &|| live_coordinate_wrong(k, points, live)),
     ])
 }
 
-/// What check returns: tests 1 to 5 and 9.
-pub fn of_check(k: usize, n: usize, points: &[i32], order: &[u32]) -> u32 {
+/// What check returns: the tests of build, then 9.
+pub fn of_check(k: usize, n: usize, points: &[i32], live: &[u8], order: &[u32]) -> u32 {
     first_held(&[
         (1, &|| dimension_wrong(k)),
         (2, &|| too_many_points(n)),
         (3, &|| not_times_long(points.len(), k, n)),
-        (4, &|| shorter(order.len(), n)),
-        (5, &|| coordinate_wrong(points)),
-        (9, &|| !is_tree(k, n, points, order)),
+        (15, &|| live_wrong(n, live)),
+        (4, &|| shorter(order.len(), live)),
+        (5, &|| live_coordinate_wrong(k, points, live)),
+        (9, &|| !is_tree(k, points, live, order)),
     ])
 }
 
-/// What list returns: tests 1 to 8, then 11, then 9. Of the list buffer only its
-/// length counts.
+/// What list returns: tests 1 to 3, then 15, then 4 to 8, then 11, then 9. Of the
+/// list buffer only its length counts.
 #[allow(clippy::too_many_arguments)]
 pub fn of_list(
     k: usize,
     n: usize,
     h: usize,
     points: &[i32],
+    live: &[u8],
     order: &[u32],
     normals: &[i32],
     offsets: &[i64],
@@ -134,25 +156,29 @@ pub fn of_list(
         (1, &|| dimension_wrong(k)),
         (2, &|| too_many_points(n)),
         (3, &|| not_times_long(points.len(), k, n)),
-        (4, &|| shorter(order.len(), n) || shorter(list_length, n)),
-        (5, &|| coordinate_wrong(points)),
+        (15, &|| live_wrong(n, live)),
+        (4, &|| {
+            shorter(order.len(), live) || shorter(list_length, live)
+        }),
+        (5, &|| live_coordinate_wrong(k, points, live)),
         (6, &|| too_many_faces(h)),
         (7, &|| faces_not_long(k, h, normals, offsets)),
         (8, &|| face_wrong(normals, offsets)),
         (11, &|| marks_wrong(h, marks)),
-        (9, &|| !is_tree(k, n, points, order)),
+        (9, &|| !is_tree(k, points, live, order)),
     ])
 }
 
-/// What the list of several regions returns: tests 1 to 3, then 14, then 4 to 8,
-/// then 11, then 9. Of the two buffers only their lengths count. Tests 7, 8 and 11
-/// are of the joined slices; the face counts are added up only after test 6.
+/// What the list of several regions returns: tests 1 to 3, then 15 and 14, then 4
+/// to 8, then 11, then 9. Of the two buffers only their lengths count. Tests 7, 8
+/// and 11 are of the joined slices; the face counts are added up only after test 6.
 #[allow(clippy::too_many_arguments)]
 pub fn of_list_regions(
     k: usize,
     n: usize,
     regions: usize,
     points: &[i32],
+    live: &[u8],
     order: &[u32],
     face_counts: &[u32],
     normals: &[i32],
@@ -166,18 +192,19 @@ pub fn of_list_regions(
         (1, &|| dimension_wrong(k)),
         (2, &|| too_many_points(n)),
         (3, &|| not_times_long(points.len(), k, n)),
+        (15, &|| live_wrong(n, live)),
         (14, &|| regions_wrong(regions, face_counts)),
         (4, &|| {
-            shorter(order.len(), n)
-                || shorter_for_each(lists_length, regions, n)
+            shorter(order.len(), live)
+                || shorter_for_each(lists_length, regions, total_live(live))
                 || shorter_for_each(counts_length, regions, 3)
         }),
-        (5, &|| coordinate_wrong(points)),
+        (5, &|| live_coordinate_wrong(k, points, live)),
         (6, &|| too_many_faces_in_one(face_counts)),
         (7, &|| faces_not_long(k, total(), normals, offsets)),
         (8, &|| face_wrong(normals, offsets)),
         (11, &|| marks_wrong(total(), marks)),
-        (9, &|| !is_tree(k, n, points, order)),
+        (9, &|| !is_tree(k, points, live, order)),
     ])
 }
 
@@ -188,6 +215,7 @@ pub fn of_screen(
     n: usize,
     h: usize,
     points: &[i32],
+    live: &[u8],
     order: &[u32],
     normals: &[i32],
     offsets: &[i64],
@@ -197,17 +225,18 @@ pub fn of_screen(
         (1, &|| dimension_wrong(k)),
         (2, &|| too_many_points(n)),
         (3, &|| not_times_long(points.len(), k, n)),
-        (4, &|| shorter(order.len(), n)),
-        (5, &|| coordinate_wrong(points)),
+        (15, &|| live_wrong(n, live)),
+        (4, &|| shorter(order.len(), live)),
+        (5, &|| live_coordinate_wrong(k, points, live)),
         (6, &|| too_many_faces(h)),
         (7, &|| faces_not_long(k, h, normals, offsets)),
         (8, &|| face_wrong(normals, offsets)),
         (11, &|| marks_wrong(h, marks)),
-        (9, &|| !is_tree(k, n, points, order)),
+        (9, &|| !is_tree(k, points, live, order)),
     ])
 }
 
-/// What explain returns: the tests of list, without the list buffer, then 13.
+/// What explain returns: the tests of list, without the list buffer, then 17.
 #[allow(clippy::too_many_arguments)]
 pub fn of_explain(
     k: usize,
@@ -215,6 +244,7 @@ pub fn of_explain(
     h: usize,
     number: u32,
     points: &[i32],
+    live: &[u8],
     order: &[u32],
     normals: &[i32],
     offsets: &[i64],
@@ -224,14 +254,15 @@ pub fn of_explain(
         (1, &|| dimension_wrong(k)),
         (2, &|| too_many_points(n)),
         (3, &|| not_times_long(points.len(), k, n)),
-        (4, &|| shorter(order.len(), n)),
-        (5, &|| coordinate_wrong(points)),
+        (15, &|| live_wrong(n, live)),
+        (4, &|| shorter(order.len(), live)),
+        (5, &|| live_coordinate_wrong(k, points, live)),
         (6, &|| too_many_faces(h)),
         (7, &|| faces_not_long(k, h, normals, offsets)),
         (8, &|| face_wrong(normals, offsets)),
         (11, &|| marks_wrong(h, marks)),
-        (9, &|| !is_tree(k, n, points, order)),
-        (13, &|| number_wrong(n, number)),
+        (9, &|| !is_tree(k, points, live, order)),
+        (17, &|| number_wrong(live, number)),
     ])
 }
 
@@ -252,6 +283,32 @@ pub fn of_place(
         (7, &|| faces_not_long(k, h, normals, offsets)),
         (8, &|| face_wrong(normals, offsets)),
         (11, &|| marks_wrong(h, marks)),
+    ])
+}
+
+/// What take returns: tests 1 to 3, then 15, 5 and 16. Tests 3 and 5 are also of
+/// the new point.
+pub fn of_take(k: usize, n: usize, points: &[i32], live: &[u8], point: &[i32]) -> u32 {
+    first_held(&[
+        (1, &|| dimension_wrong(k)),
+        (2, &|| too_many_points(n)),
+        (3, &|| {
+            not_times_long(points.len(), k, n) || point.len() != k
+        }),
+        (15, &|| live_wrong(n, live)),
+        (5, &|| {
+            live_coordinate_wrong(k, points, live) || coordinate_wrong(point)
+        }),
+        (16, &|| none_dead(live)),
+    ])
+}
+
+/// What withdraw returns: tests 2, 15 and 17.
+pub fn of_withdraw(n: usize, number: u32, live: &[u8]) -> u32 {
+    first_held(&[
+        (2, &|| too_many_points(n)),
+        (15, &|| live_wrong(n, live)),
+        (17, &|| number_wrong(live, number)),
     ])
 }
 

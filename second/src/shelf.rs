@@ -1,6 +1,8 @@
-//! A shelf: points and the slots that hold their numbers.
+//! A shelf: points and the slots that hold the live numbers.
 
-/// The points, `k` coordinates each, and the slots: one point number per point.
+use std::ops::Range;
+
+/// The points, `k` coordinates each, and the slots: one number per live point.
 #[derive(Clone, Copy, Debug)]
 pub struct Shelf<'a> {
     pub k: usize,
@@ -15,10 +17,15 @@ impl Shelf<'_> {
     }
 }
 
+/// Where the `k` coordinates of the point of this number stand among the points.
+pub fn coordinates_of(k: usize, number: u32) -> Range<usize> {
+    let first = number as usize * k;
+    first..first + k
+}
+
 /// The `k` coordinates of the point of this number.
 pub fn point(k: usize, points: &[i32], number: u32) -> &[i32] {
-    let first = number as usize * k;
-    &points[first..first + k]
+    &points[coordinates_of(k, number)]
 }
 
 /// A branch: a run of slots that starts at slot `start`, and its depth.
@@ -30,11 +37,11 @@ pub struct Run {
 }
 
 impl Run {
-    /// The run of the root branch of a shelf of `n` points.
-    pub fn root(n: usize) -> Run {
+    /// The run of the root branch of a shelf of `v` live points.
+    pub fn root(v: usize) -> Run {
         Run {
             start: 0,
-            length: n,
+            length: v,
             depth: 0,
         }
     }

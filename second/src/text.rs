@@ -1,6 +1,7 @@
 //! The program's text: parse, run, print.
 
 use crate::calls::{build, list, Listing};
+use crate::live::LIVE;
 use crate::region::CLOSED;
 
 /// The number of a text that breaks a rule of the text.
@@ -33,12 +34,14 @@ pub fn shelf_text(input: &[u8]) -> Vec<u8> {
 }
 
 /// Builds and lists: the order, the numbers of the answer and the list, or the
-/// number of the refusal. The program passes all faces as closed.
+/// number of the refusal. The program passes all points as live and all faces
+/// as closed.
 fn run(text: &Text) -> Result<(Vec<u32>, Listing, Vec<u32>), u32> {
     let (k, n, h) = (text.k, text.n, text.h);
     let mut order = vec![0; n];
     let mut buffer = vec![0; n];
-    let code = build(k, n, &text.points, &mut order);
+    let live = vec![LIVE; n];
+    let code = build(k, n, &text.points, &live, &mut order);
     if code != 0 {
         return Err(code);
     }
@@ -49,6 +52,7 @@ fn run(text: &Text) -> Result<(Vec<u32>, Listing, Vec<u32>), u32> {
         n,
         h,
         points,
+        &live,
         &order,
         normals,
         offsets,

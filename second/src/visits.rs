@@ -1,13 +1,14 @@
 //! The visits of a region: the open branches of the shelf, slot by slot.
 
 use crate::region::{open, BranchBox, Face};
-use crate::shelf::{Run, Shelf};
+use crate::shelf::{point, Run, Shelf};
 
-/// The root box: the least and greatest coordinate over all points, in each
-/// dimension. There is none for the empty shelf.
+/// The root box: the least and greatest coordinate over all live points, which
+/// are those in the slots, in each dimension. There is none for the empty shelf.
 pub fn root_box(shelf: &Shelf) -> Option<BranchBox> {
     let k = shelf.k;
-    let on = |s: usize| shelf.points.iter().skip(s).step_by(k).copied();
+    let coordinate = |number: u32, s: usize| point(k, shelf.points, number)[s];
+    let on = |s: usize| shelf.slots.iter().map(move |&number| coordinate(number, s));
     Some(BranchBox {
         least: (0..k).map(|s| on(s).min()).collect::<Option<_>>()?,
         greatest: (0..k).map(|s| on(s).max()).collect::<Option<_>>()?,

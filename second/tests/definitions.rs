@@ -1,4 +1,5 @@
-//! The definitions themselves, held against small and random shelves.
+//! The definitions themselves, held against small and random shelves, every point
+//! live.
 
 use second::{build, check, is_square, list, place, s, visits_of_face, Listing};
 
@@ -59,13 +60,13 @@ fn exactly_one_order() {
         for k in 1..=4 {
             let points = dice.row(k * n, 2);
             let mut order = vec![9; n];
-            assert_eq!(build(k, n, &points, &mut order), 0);
+            assert_eq!(build(k, n, &points, &vec![1; n], &mut order), 0);
             let all = orders(n as u32);
             let trees: Vec<_> = all.iter().filter(|o| is_tree(k, &points, o, 0)).collect();
             assert_eq!(trees, [&order]);
             for other in &all {
                 let code = if *other == order { 0 } else { 9 };
-                assert_eq!(check(k, n, &points, other), code);
+                assert_eq!(check(k, n, &points, &vec![1; n], other), code);
             }
         }
     }
@@ -77,8 +78,8 @@ fn first_contents_do_not_matter() {
     let points = Dice(5).row(60, 4);
     let mut first = vec![0; 20];
     let mut second = vec![u32::MAX; 20];
-    build(3, 20, &points, &mut first);
-    build(3, 20, &points, &mut second);
+    build(3, 20, &points, &[1; 20], &mut first);
+    build(3, 20, &points, &[1; 20], &mut second);
     assert_eq!(first, second);
 }
 
@@ -100,7 +101,7 @@ fn thrown(dice: &mut Dice, square: bool) -> Thrown {
     let h = dice.throw(0, 5) as usize;
     let points = dice.row(k * n, 20);
     let mut order = vec![0; n];
-    assert_eq!(build(k, n, &points, &mut order), 0);
+    assert_eq!(build(k, n, &points, &vec![1; n], &mut order), 0);
     let mut normals = dice.row(k * h, 3);
     for face in 0..h {
         let kept = dice.throw(0, k as i64 - 1) as usize;
@@ -129,6 +130,7 @@ fn listed(t: &Thrown) -> (Listing, Vec<u32>) {
         n,
         h,
         &t.points,
+        &vec![1; n],
         &t.order,
         &t.normals,
         &t.offsets,
@@ -170,7 +172,7 @@ fn visits_at_most_the_sum_of_faces() {
         let t = thrown(&mut dice, round % 2 == 0);
         let n = t.order.len();
         let alone = |((normal, &m), &mark)| {
-            visits_of_face(t.k, n, &t.points, &t.order, normal, m, mark).unwrap()
+            visits_of_face(t.k, n, &t.points, &vec![1; n], &t.order, normal, m, mark).unwrap()
         };
         let faces = t.normals.chunks(t.k).zip(&t.offsets).zip(&t.marks);
         let sum: u32 = faces.map(alone).sum();

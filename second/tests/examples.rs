@@ -1,9 +1,11 @@
-//! The twelve given examples, with every face closed, and the rows of S.
+//! The twelve given examples, with every point live and every face closed, and the
+//! rows of S.
 
 use second::{build, check, list, open_slots, place, s, screen, shelf_text};
 use second::{visits_of_face, Listing};
 
 const A: [i32; 12] = [1, 5, 4, 2, 4, 8, 7, 1, 6, 6, 2, 2];
+const A_LIVE: [u8; 6] = [1; 6];
 const A_ORDER: [u32; 6] = [1, 5, 0, 2, 3, 4];
 const TWO_NORMALS: [i32; 4] = [1, 1, -1, 0];
 const TWO_OFFSETS: [i64; 2] = [7, -6];
@@ -11,9 +13,10 @@ const TWO_CLOSED: [u8; 2] = [0, 0];
 
 /// Builds the order of these points, which must be done.
 fn built(k: usize, points: &[i32]) -> Vec<u32> {
-    let mut order = vec![77; points.len() / k];
-    assert_eq!(build(k, order.len(), points, &mut order), 0);
-    assert_eq!(check(k, order.len(), points, &order), 0);
+    let n = points.len() / k;
+    let (live, mut order) = (vec![1; n], vec![77; n]);
+    assert_eq!(build(k, n, points, &live, &mut order), 0);
+    assert_eq!(check(k, n, points, &live, &order), 0);
     order
 }
 
@@ -27,6 +30,7 @@ fn listed(k: usize, points: &[i32], normals: &[i32], offsets: &[i64]) -> (Listin
         n,
         h,
         points,
+        &vec![1; n],
         &order,
         normals,
         offsets,
@@ -63,6 +67,7 @@ fn example_2_two_faces() {
         6,
         2,
         &A,
+        &A_LIVE,
         &A_ORDER,
         &TWO_NORMALS,
         &TWO_OFFSETS,
@@ -93,7 +98,10 @@ fn example_3_one_square_face() {
     let (answer, places) = listed(2, &A, &[1, 0], &[5]);
     assert_eq!(answer, done(2, 4, 3));
     assert_eq!(places, [3, 4, 2, 0, 5, 1]);
-    assert_eq!(visits_of_face(2, 6, &A, &A_ORDER, &[1, 0], 5, 0), Ok(3));
+    assert_eq!(
+        visits_of_face(2, 6, &A, &A_LIVE, &A_ORDER, &[1, 0], 5, 0),
+        Ok(3)
+    );
 }
 
 /// Example 4.
@@ -133,7 +141,7 @@ fn example_7_bound_reached() {
 #[test]
 fn example_8_ties() {
     assert_eq!(built(1, &[3, 3, 3]), [0, 1, 2]);
-    assert_eq!(check(1, 3, &[3, 3, 3], &[1, 0, 2]), 9);
+    assert_eq!(check(1, 3, &[3, 3, 3], &[1; 3], &[1, 0, 2]), 9);
 }
 
 /// Example 9.
@@ -149,24 +157,38 @@ fn example_9_one_point() {
 #[test]
 fn example_10_dimension_and_count() {
     for (k, code) in [(0, 1), (1, 0), (4, 0), (5, 1)] {
-        assert_eq!(build(k, 2, &vec![0; 2 * k], &mut [9, 9]), code);
-        assert_eq!(check(k, 2, &vec![0; 2 * k], &[0, 1]), code);
+        assert_eq!(build(k, 2, &vec![0; 2 * k], &[1; 2], &mut [9, 9]), code);
+        assert_eq!(check(k, 2, &vec![0; 2 * k], &[1; 2], &[0, 1]), code);
         let points = vec![0; 2 * k];
-        let answer = list(k, 2, 0, &points, &[0, 1], &[], &[], &[], &mut [9, 9]);
+        let answer = list(
+            k,
+            2,
+            0,
+            &points,
+            &[1; 2],
+            &[0, 1],
+            &[],
+            &[],
+            &[],
+            &mut [9, 9],
+        );
         assert_eq!(answer.code, code);
         assert_eq!(place(k, 0, &points[..k], &[], &[], &[]).code, code);
-        let answer = screen(k, 2, 0, &points, &[0, 1], &[], &[], &[]);
+        let answer = screen(k, 2, 0, &points, &[1; 2], &[0, 1], &[], &[], &[]);
         assert_eq!(answer.code, code);
     }
     let mut order = vec![0; 65_536];
-    assert_eq!(build(1, 65_536, &vec![0; 65_536], &mut order), 2);
+    assert_eq!(
+        build(1, 65_536, &vec![0; 65_536], &vec![1; 65_536], &mut order),
+        2
+    );
 }
 
 /// Example 11.
 #[test]
 fn example_11_coordinate_and_component() {
-    assert_eq!(build(1, 1, &[32_767], &mut [0]), 0);
-    assert_eq!(build(1, 1, &[32_768], &mut [0]), 5);
+    assert_eq!(build(1, 1, &[32_767], &[1], &mut [0]), 0);
+    assert_eq!(build(1, 1, &[32_768], &[1], &mut [0]), 5);
     assert_eq!(place(1, 1, &[0], &[-32_767], &[0], &[0]).code, 0);
     assert_eq!(place(1, 1, &[0], &[-32_768], &[0], &[0]).code, 8);
 }

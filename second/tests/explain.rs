@@ -1,5 +1,6 @@
-//! Why a point is inside or outside: worked examples for each reason, refusals,
-//! and random shelves against list, the open slots and a walk from the root.
+//! Why a point is inside or outside, every point live: worked examples for each
+//! reason, refusals, and random shelves against list, the open slots and a walk
+//! from the root.
 
 use second::{build, explain, list, open_slots, Explaining};
 
@@ -14,8 +15,9 @@ type Region<'a> = (&'a [i32], &'a [i64], &'a [u8]);
 
 /// Builds the order of these points, which must be done.
 fn built(k: usize, points: &[i32]) -> Vec<u32> {
-    let mut order = vec![77; points.len() / k];
-    assert_eq!(build(k, order.len(), points, &mut order), 0);
+    let n = points.len() / k;
+    let mut order = vec![77; n];
+    assert_eq!(build(k, n, points, &vec![1; n], &mut order), 0);
     order
 }
 
@@ -24,7 +26,10 @@ fn explained(k: usize, points: &[i32], region: Region, number: u32) -> Explainin
     let (normals, offsets, marks) = region;
     let order = built(k, points);
     let (n, h) = (order.len(), offsets.len());
-    explain(k, n, h, number, points, &order, normals, offsets, marks)
+    let live = vec![1; n];
+    explain(
+        k, n, h, number, points, &live, &order, normals, offsets, marks,
+    )
 }
 
 /// Explains the numbers of shelf A, in slot order: 1, 5, 0, 2, 3, 4.
@@ -325,7 +330,7 @@ fn last_slot() {
 fn later_places_are_not_read() {
     for later in [0, 1, 2, u32::MAX] {
         let order = [0, 1, later];
-        let answer = explain(1, 2, 1, 0, &[0, 10], &order, &[1], &[5], &[0]);
+        let answer = explain(1, 2, 1, 0, &[0, 10], &[1; 2], &order, &[1], &[5], &[0]);
         assert_eq!(answer, outside_by_test(0, 0, -5));
     }
 }
@@ -337,6 +342,7 @@ struct Lent {
     h: usize,
     number: u32,
     points: Vec<i32>,
+    live: Vec<u8>,
     order: Vec<u32>,
     normals: Vec<i32>,
     offsets: Vec<i64>,
@@ -351,6 +357,7 @@ fn right() -> Lent {
         h: 1,
         number: 1,
         points: vec![0, 10],
+        live: vec![1; 2],
         order: vec![0, 1, 70],
         normals: vec![1],
         offsets: vec![5],
@@ -366,6 +373,7 @@ fn called(lent: &Lent) -> Explaining {
         lent.h,
         lent.number,
         &lent.points,
+        &lent.live,
         &lent.order,
         &lent.normals,
         &lent.offsets,
@@ -383,10 +391,10 @@ fn refuses(lent: &Lent, code: u32) {
 type Break = (u32, fn(&mut Lent));
 
 /// Breaks for each number, in the call's order from the last test to the first:
-/// 13, then 9, then 11, then 8 down to 1.
-const BREAKS: [Break; 18] = [
-    (13, |lent| lent.number = 2),
-    (13, |lent| lent.number = u32::MAX),
+/// 17, then 9, then 11, then 8 down to 4, then 15, then 3 down to 1.
+const BREAKS: [Break; 20] = [
+    (17, |lent| lent.number = 2),
+    (17, |lent| lent.number = u32::MAX),
     (9, |lent| lent.order[1] = 0),
     (9, |lent| lent.order[0] = 2),
     (11, |lent| lent.marks.push(0)),
@@ -399,6 +407,8 @@ const BREAKS: [Break; 18] = [
     (5, |lent| lent.points[0] = -32_769),
     (5, |lent| lent.points[1] = 32_768),
     (4, |lent| lent.order.truncate(1)),
+    (15, |lent| lent.live.push(1)),
+    (15, |lent| lent.live[0] = 2),
     (3, |lent| lent.points.push(0)),
     (2, |lent| lent.n = 65_536),
     (1, |lent| lent.k = 5),
@@ -440,17 +450,17 @@ fn refuses_in_its_order() {
     }
 }
 
-/// The empty shelf has no number to ask about: 13, after every other refusal.
+/// The empty shelf has no number to ask about: 17, after every other refusal.
 #[test]
 fn empty_shelf() {
     let zeros = Explaining::default();
     let refusal = |code| Explaining { code, ..zeros };
     for number in [0, 1, u32::MAX] {
-        let answer = explain(2, 0, 0, number, &[], &[], &[], &[], &[]);
-        assert_eq!(answer, refusal(13));
-        let answer = explain(1, 0, 1, number, &[], &[7], &[1], &[5], &[1]);
-        assert_eq!(answer, refusal(13));
-        let answer = explain(1, 0, 1, number, &[], &[7], &[1], &[5], &[2]);
+        let answer = explain(2, 0, 0, number, &[], &[], &[], &[], &[], &[]);
+        assert_eq!(answer, refusal(17));
+        let answer = explain(1, 0, 1, number, &[], &[], &[7], &[1], &[5], &[1]);
+        assert_eq!(answer, refusal(17));
+        let answer = explain(1, 0, 1, number, &[], &[], &[7], &[1], &[5], &[2]);
         assert_eq!(answer, refusal(11));
     }
 }
@@ -459,7 +469,7 @@ fn empty_shelf() {
 #[test]
 fn greatest_counts_are_refused() {
     let most = usize::MAX;
-    let code = |k, n, h| explain(k, n, h, u32::MAX, &[], &[], &[], &[], &[]).code;
+    let code = |k, n, h| explain(k, n, h, u32::MAX, &[], &[], &[], &[], &[], &[]).code;
     assert_eq!(code(most, most, most), 1);
     assert_eq!(code(4, most, most), 2);
     assert_eq!(code(4, 0, most), 6);
@@ -486,7 +496,10 @@ impl Case {
     fn explained(&self, number: u32) -> Explaining {
         let ((n, h), points, order) = (self.counts(), &self.points, &self.order);
         let (normals, offsets, marks) = (&self.normals, &self.offsets, &self.marks);
-        let answer = explain(self.k, n, h, number, points, order, normals, offsets, marks);
+        let live = &vec![1; n];
+        let answer = explain(
+            self.k, n, h, number, points, live, order, normals, offsets, marks,
+        );
         assert_eq!(answer.code, 0);
         answer
     }
@@ -495,9 +508,11 @@ impl Case {
     fn listed(&self) -> (Vec<u32>, u32) {
         let ((n, h), points, order) = (self.counts(), &self.points, &self.order);
         let (normals, offsets, marks) = (&self.normals, &self.offsets, &self.marks);
-        let mut places = vec![88; n];
+        let (live, mut places) = (&vec![1; n], vec![88; n]);
         let lent = &mut places;
-        let answer = list(self.k, n, h, points, order, normals, offsets, marks, lent);
+        let answer = list(
+            self.k, n, h, points, live, order, normals, offsets, marks, lent,
+        );
         assert_eq!(answer.code, 0);
         (places[..answer.inside as usize].to_vec(), answer.visits)
     }
@@ -506,7 +521,8 @@ impl Case {
     fn open(&self) -> Vec<bool> {
         let ((n, h), points, order) = (self.counts(), &self.points, &self.order);
         let (normals, offsets, marks) = (&self.normals, &self.offsets, &self.marks);
-        open_slots(self.k, n, h, points, order, normals, offsets, marks).unwrap()
+        let live = &vec![1; n];
+        open_slots(self.k, n, h, points, live, order, normals, offsets, marks).unwrap()
     }
 
     /// The coordinates of the point of this number.

@@ -1,4 +1,4 @@
-//! Full shelves: 65,535 points and 32 faces in each dimension.
+//! Full shelves: 65,535 live points and 32 faces in each dimension.
 
 use second::{build, check, list, s, screen};
 use std::time::Instant;
@@ -21,12 +21,13 @@ fn coordinates(count: usize) -> Vec<i32> {
 fn full_shelves() {
     for k in 1..=4 {
         let points = coordinates(k * N);
+        let live = vec![1; N];
         let mut order = vec![0; N];
         let mut places = vec![0; N];
         let start = Instant::now();
-        assert_eq!(build(k, N, &points, &mut order), 0);
+        assert_eq!(build(k, N, &points, &live, &mut order), 0);
         let built = start.elapsed();
-        assert_eq!(check(k, N, &points, &order), 0);
+        assert_eq!(check(k, N, &points, &live, &order), 0);
         let normals: Vec<i32> = (0..32 * k)
             .map(|i| if i % k == (i / k) % k { 32_767 } else { 0 })
             .collect();
@@ -38,6 +39,7 @@ fn full_shelves() {
             N,
             32,
             &points,
+            &live,
             &order,
             &normals,
             &offsets,
@@ -51,7 +53,7 @@ fn full_shelves() {
         assert_eq!(answer.code, 0);
         assert_eq!(answer.inside + answer.outside, 65_535);
         assert!(u64::from(answer.visits) <= 32 * s(N, k));
-        let first = screen(k, N, 32, &points, &order, &normals, &offsets, &marks);
+        let first = screen(k, N, 32, &points, &live, &order, &normals, &offsets, &marks);
         assert_eq!((first.code, first.found, first.number), (0, 1, places[0]));
         assert!(first.visits <= answer.visits);
     }

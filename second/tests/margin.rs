@@ -389,11 +389,11 @@ fn one_point_shelf_agrees() {
         let (k, h) = (point.len(), offsets.len());
         let inside = placed(point, case.region()).inside;
         let lent = &mut [88];
-        let listing = list(k, 1, h, point, &[0], normals, offsets, marks, lent);
+        let listing = list(k, 1, h, point, &[1], &[0], normals, offsets, marks, lent);
         let counts = (listing.inside, listing.outside, listing.visits);
         assert_eq!((listing.code, counts), (0, (inside, 1 - inside, 0)));
         assert_eq!(lent, &[0]);
-        let screening = screen(k, 1, h, point, &[0], normals, offsets, marks);
+        let screening = screen(k, 1, h, point, &[1], &[0], normals, offsets, marks);
         assert_eq!((screening.code, screening.found), (0, inside));
     }
 }

@@ -1,9 +1,11 @@
-//! Closed and open faces: worked examples, the marks refused, and random shelves.
+//! Closed and open faces, every point live: worked examples, the marks refused, and
+//! random shelves.
 
 use second::{build, list, open_slots, place, screen, visits_of_face, visits_of_region};
 use second::{Listing, Placing, Screening};
 
 const A: [i32; 12] = [1, 5, 4, 2, 4, 8, 7, 1, 6, 6, 2, 2];
+const A_LIVE: [u8; 6] = [1; 6];
 const A_ORDER: [u32; 6] = [1, 5, 0, 2, 3, 4];
 
 /// A region: normals, offsets and marks.
@@ -11,8 +13,9 @@ type Region<'a> = (&'a [i32], &'a [i64], &'a [u8]);
 
 /// Builds the order of these points, which must be done.
 fn built(k: usize, points: &[i32]) -> Vec<u32> {
-    let mut order = vec![77; points.len() / k];
-    assert_eq!(build(k, order.len(), points, &mut order), 0);
+    let n = points.len() / k;
+    let mut order = vec![77; n];
+    assert_eq!(build(k, n, points, &vec![1; n], &mut order), 0);
     order
 }
 
@@ -23,7 +26,18 @@ fn listed(k: usize, points: &[i32], region: Region) -> ([u32; 3], Vec<u32>) {
     let (n, h) = (order.len(), offsets.len());
     let mut places = vec![88; n];
     let lent = &mut places;
-    let answer = list(k, n, h, points, &order, normals, offsets, marks, lent);
+    let answer = list(
+        k,
+        n,
+        h,
+        points,
+        &vec![1; n],
+        &order,
+        normals,
+        offsets,
+        marks,
+        lent,
+    );
     assert_eq!(answer.code, 0);
     ([answer.inside, answer.outside, answer.visits], places)
 }
@@ -33,7 +47,17 @@ fn screened(k: usize, points: &[i32], region: Region) -> [u32; 3] {
     let (normals, offsets, marks) = region;
     let order = built(k, points);
     let (n, h) = (order.len(), offsets.len());
-    let answer = screen(k, n, h, points, &order, normals, offsets, marks);
+    let answer = screen(
+        k,
+        n,
+        h,
+        points,
+        &vec![1; n],
+        &order,
+        normals,
+        offsets,
+        marks,
+    );
     assert_eq!(answer.code, 0);
     [answer.found, answer.number, answer.visits]
 }
@@ -103,10 +127,10 @@ fn box_corner_on_a_face_with_a_negative_component() {
 /// Which slots of shelf A are open for face (1, 0), m 4, with either mark.
 #[test]
 fn open_slots_with_either_mark() {
-    let slots = |mark: u8| open_slots(2, 6, 1, &A, &A_ORDER, &[1, 0], &[4], &[mark]);
+    let slots = |mark: u8| open_slots(2, 6, 1, &A, &A_LIVE, &A_ORDER, &[1, 0], &[4], &[mark]);
     assert_eq!(slots(0), Ok(vec![true, true, true, true, false, false]));
     assert_eq!(slots(1), Ok(vec![false, false, false, true, true, true]));
-    let visits = |mark: u8| visits_of_face(2, 6, &A, &A_ORDER, &[1, 0], 4, mark);
+    let visits = |mark: u8| visits_of_face(2, 6, &A, &A_LIVE, &A_ORDER, &[1, 0], 4, mark);
     assert_eq!((visits(0), visits(1)), (Ok(4), Ok(3)));
 }
 
@@ -188,15 +212,17 @@ fn zero_normal() {
 /// The codes of list, screen, the one-point test and the open slots for two
 /// points of one dimension with `h` faces and these marks.
 fn codes(h: usize, marks: &[u8]) -> [u32; 5] {
-    let (points, order) = ([0, 10], [0, 1]);
+    let (points, live, order) = ([0, 10], [1; 2], [0, 1]);
     let (normals, offsets) = (vec![1; h], vec![5; h]);
     let mut places = [80, 81];
     let lent = &mut places;
-    let listing = list(1, 2, h, &points, &order, &normals, &offsets, marks, lent);
-    let screening = screen(1, 2, h, &points, &order, &normals, &offsets, marks);
+    let listing = list(
+        1, 2, h, &points, &live, &order, &normals, &offsets, marks, lent,
+    );
+    let screening = screen(1, 2, h, &points, &live, &order, &normals, &offsets, marks);
     let placing = place(1, h, &[7], &normals, &offsets, marks);
-    let open = open_slots(1, 2, h, &points, &order, &normals, &offsets, marks);
-    let visits = visits_of_region(1, 2, h, &points, &order, &normals, &offsets, marks);
+    let open = open_slots(1, 2, h, &points, &live, &order, &normals, &offsets, marks);
+    let visits = visits_of_region(1, 2, h, &points, &live, &order, &normals, &offsets, marks);
     if listing.code != 0 {
         let code = listing.code;
         let zeros = (Listing::default(), Screening::default(), Placing::default());
@@ -233,7 +259,7 @@ fn another_mark() {
             marks[face] = mark;
             assert_eq!(codes(3, &marks), [code; 5]);
         }
-        let alone = visits_of_face(1, 2, &[0, 10], &[0, 1], &[1], 5, mark);
+        let alone = visits_of_face(1, 2, &[0, 10], &[1; 2], &[0, 1], &[1], 5, mark);
         assert_eq!(alone.err().unwrap_or(0), code);
     }
 }
@@ -243,10 +269,12 @@ fn another_mark() {
 fn marks_tested_after_8_and_before_9() {
     for marks in [&[][..], &[2], &[0, 0]] {
         let of_list = |order: &[u32], normal: i32, m: i64| {
-            let points = [0, 10];
+            let (points, live) = ([0, 10], [1; 2]);
             let (normals, offsets, lent) = ([normal], [m], &mut [80, 81]);
-            let listing = list(1, 2, 1, &points, order, &normals, &offsets, marks, lent);
-            let screening = screen(1, 2, 1, &points, order, &normals, &offsets, marks);
+            let listing = list(
+                1, 2, 1, &points, &live, order, &normals, &offsets, marks, lent,
+            );
+            let screening = screen(1, 2, 1, &points, &live, order, &normals, &offsets, marks);
             (listing.code, screening.code)
         };
         assert_eq!(of_list(&[1, 0], 1, 5), (11, 11));
@@ -280,9 +308,9 @@ fn one_point_test_with_two_faults() {
 #[test]
 fn marks_of_the_empty_shelf() {
     for (marks, code) in [([0], 0), ([1], 0), ([2], 11)] {
-        let answer = list(1, 0, 1, &[], &[], &[1], &[5], &marks, &mut []);
+        let answer = list(1, 0, 1, &[], &[], &[], &[1], &[5], &marks, &mut []);
         assert_eq!(answer.code, code);
-        let answer = screen(1, 0, 1, &[], &[], &[1], &[5], &marks);
+        let answer = screen(1, 0, 1, &[], &[], &[], &[1], &[5], &marks);
         assert_eq!((answer.code, answer.found), (code, 0));
     }
 }

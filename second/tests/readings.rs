@@ -453,6 +453,6 @@ fn points_made_are_accepted() {
         assert_eq!(place(3, 0, point, &[], &[], &[]).code, 0);
     }
     let mut order = [77; 3];
-    assert_eq!(build(3, 3, &points, &mut order), 0);
+    assert_eq!(build(3, 3, &points, &[1; 3], &mut order), 0);
     assert_eq!(order, [0, 2, 1]);
 }

@@ -1,5 +1,5 @@
 //! Limits on both sides, the order of the tests of each call, and what a refusal
-//! leaves alone.
+//! leaves alone, every point live.
 
 use second::{build, check, list, open_slots, place, screen, Listing, Placing, Screening};
 
@@ -12,6 +12,7 @@ struct Lent {
     n: usize,
     h: usize,
     points: Vec<i32>,
+    live: Vec<u8>,
     order: Vec<u32>,
     normals: Vec<i32>,
     offsets: Vec<i64>,
@@ -26,6 +27,7 @@ fn right() -> Lent {
         n: 2,
         h: 1,
         points: vec![0, 10],
+        live: vec![1; 2],
         order: vec![0, 1, 70],
         normals: vec![1],
         offsets: vec![5],
@@ -42,6 +44,7 @@ fn called(lent: &Lent) -> (Listing, Vec<u32>) {
         lent.n,
         lent.h,
         &lent.points,
+        &lent.live,
         &lent.order,
         &lent.normals,
         &lent.offsets,
@@ -69,6 +72,7 @@ fn screened(lent: &Lent) -> Screening {
         lent.n,
         lent.h,
         &lent.points,
+        &lent.live,
         &lent.order,
         &lent.normals,
         &lent.offsets,
@@ -89,8 +93,9 @@ fn screen_refuses(lent: &Lent, code: u32) {
 type Break = (u32, fn(&mut Lent));
 
 /// One break for each number, in the call's order from the last test to the
-/// first: 9, then 11, then 8 down to 1. Each later one must hide those before it.
-const BREAKS: [Break; 10] = [
+/// first: 9, then 11, then 8 down to 4, then 15, then 3 down to 1. Each later one
+/// must hide those before it.
+const BREAKS: [Break; 11] = [
     (9, |lent| lent.order[0] = 1),
     (11, |lent| lent.marks[0] = 2),
     (8, |lent| lent.normals[0] = 32_768),
@@ -98,6 +103,7 @@ const BREAKS: [Break; 10] = [
     (6, |lent| lent.h = 33),
     (5, |lent| lent.points[0] = -32_769),
     (4, |lent| lent.list.truncate(1)),
+    (15, |lent| lent.live[1] = 2),
     (3, |lent| lent.points.push(0)),
     (2, |lent| lent.n = 65_536),
     (1, |lent| lent.k = 5),
@@ -139,7 +145,7 @@ fn list_refuses_in_its_order() {
 }
 
 /// The breaks of screen: it has no list buffer, so 4 is for a short order.
-fn breaks_of_screen() -> [Break; 10] {
+fn breaks_of_screen() -> [Break; 11] {
     BREAKS.map(|(code, change)| match code {
         4 => (4, (|lent| lent.order.truncate(1)) as fn(&mut Lent)),
         _ => (code, change),
@@ -198,7 +204,7 @@ fn screen_refuses_as_list_does() {
 #[test]
 fn screen_refuses_strange_numbers() {
     for order in [[0, 0], [1, 1], [1, 0], [0, 2], [0, u32::MAX]] {
-        let answer = screen(1, 2, 1, &[0, 10], &order, &[1], &[5], &[0]);
+        let answer = screen(1, 2, 1, &[0, 10], &[1; 2], &order, &[1], &[5], &[0]);
         assert_eq!((answer.code, answer.found, answer.number), (9, 0, 0));
     }
 }
@@ -211,39 +217,41 @@ fn list_leaves_later_places() {
     assert_eq!(buffer, [1, 0, 82]);
 }
 
-/// Build refuses in rising order and leaves the order as it was.
+/// Build refuses in its order and leaves the lent order as it was.
 #[test]
-fn build_refuses_in_rising_order() {
+fn build_refuses_in_its_order() {
     let mut order = [7, 8, 9];
-    assert_eq!(build(5, 65_536, &[32_768], &mut order), 1);
-    assert_eq!(build(1, 65_536, &[32_768], &mut order), 2);
-    assert_eq!(build(1, 4, &[32_768], &mut order), 3);
-    assert_eq!(build(1, 4, &[32_768; 4], &mut order), 4);
-    assert_eq!(build(1, 3, &[0, 0, 32_768], &mut order), 5);
+    assert_eq!(build(5, 65_536, &[32_768], &[2], &mut order), 1);
+    assert_eq!(build(1, 65_536, &[32_768], &[2], &mut order), 2);
+    assert_eq!(build(1, 4, &[32_768], &[2], &mut order), 3);
+    assert_eq!(build(1, 4, &[32_768; 4], &[2], &mut order), 15);
+    assert_eq!(build(1, 4, &[32_768; 4], &[1; 4], &mut order), 4);
+    assert_eq!(build(1, 3, &[0, 0, 32_768], &[1; 3], &mut order), 5);
     assert_eq!(order, [7, 8, 9]);
-    assert_eq!(build(1, 2, &[1, 0], &mut order), 0);
+    assert_eq!(build(1, 2, &[1, 0], &[1; 2], &mut order), 0);
     assert_eq!(order, [1, 0, 9]);
 }
 
-/// Check refuses in rising order.
+/// Check refuses in its order.
 #[test]
-fn check_refuses_in_rising_order() {
-    assert_eq!(check(0, 65_536, &[32_768], &[0]), 1);
-    assert_eq!(check(4, 65_536, &[32_768], &[0]), 2);
-    assert_eq!(check(4, 2, &[32_768], &[0]), 3);
-    assert_eq!(check(1, 2, &[0, 32_768], &[1]), 4);
-    assert_eq!(check(1, 2, &[0, 32_768], &[1, 0]), 5);
-    assert_eq!(check(1, 2, &[0, 1], &[1, 0]), 9);
-    assert_eq!(check(1, 2, &[0, 1], &[0, 1, 1]), 0);
+fn check_refuses_in_its_order() {
+    assert_eq!(check(0, 65_536, &[32_768], &[2], &[0]), 1);
+    assert_eq!(check(4, 65_536, &[32_768], &[2], &[0]), 2);
+    assert_eq!(check(4, 2, &[32_768], &[2], &[0]), 3);
+    assert_eq!(check(1, 2, &[0, 32_768], &[2], &[1]), 15);
+    assert_eq!(check(1, 2, &[0, 32_768], &[1; 2], &[1]), 4);
+    assert_eq!(check(1, 2, &[0, 32_768], &[1; 2], &[1, 0]), 5);
+    assert_eq!(check(1, 2, &[0, 1], &[1; 2], &[1, 0]), 9);
+    assert_eq!(check(1, 2, &[0, 1], &[1; 2], &[0, 1, 1]), 0);
 }
 
 /// Check says 9 for a number twice and for a number at least n.
 #[test]
 fn check_refuses_strange_numbers() {
     let points = [5, 5, 5];
-    assert_eq!(check(1, 3, &points, &[0, 1, 2]), 0);
+    assert_eq!(check(1, 3, &points, &[1; 3], &[0, 1, 2]), 0);
     for order in [[0, 1, 1], [0, 1, 3], [0, 1, u32::MAX], [0, 0, 0]] {
-        assert_eq!(check(1, 3, &points, &order), 9);
+        assert_eq!(check(1, 3, &points, &[1; 3], &order), 9);
     }
 }
 
@@ -274,8 +282,8 @@ fn place_refuses_in_rising_order() {
 #[test]
 fn ranges_on_both_sides() {
     for (x, code) in [(-32_769, 5), (-32_768, 0), (32_767, 0), (32_768, 5)] {
-        assert_eq!(build(1, 1, &[x], &mut [0]), code);
-        assert_eq!(check(1, 1, &[x], &[0]), code);
+        assert_eq!(build(1, 1, &[x], &[1], &mut [0]), code);
+        assert_eq!(check(1, 1, &[x], &[1], &[0]), code);
         assert_eq!(place(1, 0, &[x], &[], &[], &[]).code, code);
     }
     for (a, code) in [(-32_768, 8), (-32_767, 0), (32_767, 0), (32_768, 8)] {
@@ -285,7 +293,7 @@ fn ranges_on_both_sides() {
         assert_eq!(place(1, 1, &[0], &[0], &[m], &[0]).code, code);
     }
     for x in [i32::MIN, i32::MAX] {
-        assert_eq!(build(1, 1, &[x], &mut [0]), 5);
+        assert_eq!(build(1, 1, &[x], &[1], &mut [0]), 5);
         assert_eq!(place(1, 1, &[0], &[x], &[0], &[0]).code, 8);
         assert_eq!(place(1, 1, &[0], &[0], &[i64::MIN], &[0]).code, 8);
     }
@@ -295,10 +303,10 @@ fn ranges_on_both_sides() {
 #[test]
 fn lengths_on_both_sides() {
     for (length, code) in [(5, 3), (6, 0), (7, 3)] {
-        assert_eq!(build(2, 3, &vec![0; length], &mut [0; 3]), code);
+        assert_eq!(build(2, 3, &vec![0; length], &[1; 3], &mut [0; 3]), code);
     }
     for (length, code) in [(2, 4), (3, 0), (4, 0)] {
-        assert_eq!(build(2, 3, &[0; 6], &mut vec![0; length]), code);
+        assert_eq!(build(2, 3, &[0; 6], &[1; 3], &mut vec![0; length]), code);
     }
     for (length, code) in [(3, 7), (4, 0), (5, 7)] {
         let normals = vec![0; length];
@@ -317,7 +325,7 @@ fn lengths_on_both_sides() {
 #[test]
 fn counts_on_both_sides() {
     for (n, code) in [(65_535, 0), (65_536, 2)] {
-        assert_eq!(build(1, n, &vec![0; n], &mut vec![0; n]), code);
+        assert_eq!(build(1, n, &vec![0; n], &vec![1; n], &mut vec![0; n]), code);
     }
     for (h, code) in [(0, 0), (32, 0), (33, 6)] {
         let (normals, offsets, marks) = (vec![0; h], vec![0; h], vec![0; h]);
@@ -344,24 +352,27 @@ fn list_tests_both_buffers() {
 #[test]
 fn greatest_numbers_are_refused() {
     let most = usize::MAX;
-    assert_eq!(build(most, most, &[], &mut []), 1);
-    assert_eq!(build(4, most, &[], &mut []), 2);
-    assert_eq!(check(4, most / 4 + 1, &[], &[]), 2);
+    assert_eq!(build(most, most, &[], &[], &mut []), 1);
+    assert_eq!(build(4, most, &[], &[], &mut []), 2);
+    assert_eq!(check(4, most / 4 + 1, &[], &[], &[]), 2);
     assert_eq!(place(4, most, &[0; 4], &[], &[], &[]).code, 6);
-    let answer = list(4, 0, most / 4 + 1, &[], &[], &[], &[], &[], &mut []);
+    let answer = list(4, 0, most / 4 + 1, &[], &[], &[], &[], &[], &[], &mut []);
     assert_eq!(answer.code, 6);
-    assert_eq!(open_slots(4, 0, most, &[], &[], &[], &[], &[]), Err(6));
-    assert_eq!(screen(4, most, 0, &[], &[], &[], &[], &[]).code, 2);
-    assert_eq!(screen(4, 0, most, &[], &[], &[], &[], &[]).code, 6);
+    assert_eq!(open_slots(4, 0, most, &[], &[], &[], &[], &[], &[]), Err(6));
+    assert_eq!(screen(4, most, 0, &[], &[], &[], &[], &[], &[]).code, 2);
+    assert_eq!(screen(4, 0, most, &[], &[], &[], &[], &[], &[]).code, 6);
 }
 
 /// The empty shelf: done, nothing listed, no visits.
 #[test]
 fn empty_shelf() {
-    assert_eq!(build(4, 0, &[], &mut [5]), 0);
-    assert_eq!(check(4, 0, &[], &[]), 0);
+    assert_eq!(build(4, 0, &[], &[], &mut [5]), 0);
+    assert_eq!(check(4, 0, &[], &[], &[]), 0);
     let mut buffer = [6];
-    let answer = list(1, 0, 1, &[], &[], &[1], &[5], &[1], &mut buffer);
+    let answer = list(1, 0, 1, &[], &[], &[], &[1], &[5], &[1], &mut buffer);
     assert_eq!((answer, buffer), (Listing::default(), [6]));
-    assert_eq!(open_slots(1, 0, 1, &[], &[], &[1], &[5], &[1]), Ok(vec![]));
+    assert_eq!(
+        open_slots(1, 0, 1, &[], &[], &[], &[1], &[5], &[1]),
+        Ok(vec![])
+    );
 }

@@ -1,5 +1,5 @@
-//! Several regions in one call: worked examples, refusals, limits on both sides,
-//! and random cases against list, region by region.
+//! Several regions in one call, every point live: worked examples, refusals, limits
+//! on both sides, and random cases against list, region by region.
 
 use second::{build, is_square, list, list_regions, open_slots, place, s, visits_of_face};
 use std::time::Instant;
@@ -21,6 +21,7 @@ struct Lent {
     n: usize,
     regions: usize,
     points: Vec<i32>,
+    live: Vec<u8>,
     order: Vec<u32>,
     face_counts: Vec<u32>,
     normals: Vec<i32>,
@@ -32,8 +33,9 @@ struct Lent {
 
 /// Builds the order of these points, which must be done.
 fn built(k: usize, points: &[i32]) -> Vec<u32> {
-    let mut order = vec![77; points.len() / k];
-    assert_eq!(build(k, order.len(), points, &mut order), 0);
+    let n = points.len() / k;
+    let mut order = vec![77; n];
+    assert_eq!(build(k, n, points, &vec![1; n], &mut order), 0);
     order
 }
 
@@ -48,6 +50,7 @@ fn lent(k: usize, points: &[i32], regions: &[Region]) -> Lent {
         n,
         regions: regions.len(),
         points: points.to_vec(),
+        live: vec![1; n],
         order: [&order[..], &[70, 71]].concat(),
         face_counts: regions.iter().map(faces).collect(),
         normals: regions
@@ -75,6 +78,7 @@ fn called(lent: &Lent) -> (u32, Vec<u32>, Vec<u32>) {
         lent.n,
         lent.regions,
         &lent.points,
+        &lent.live,
         &lent.order,
         &lent.face_counts,
         &lent.normals,
@@ -119,9 +123,11 @@ fn answers(lent: &Lent, code: u32) {
 fn alone(k: usize, points: &[i32], order: &[u32], region: Region) -> (u32, Listed) {
     let (normals, offsets, marks) = region;
     let (n, h) = (points.len() / k, offsets.len());
-    let mut places = vec![88; n];
+    let (live, mut places) = (&vec![1; n], vec![88; n]);
     let buffer = &mut places;
-    let answer = list(k, n, h, points, order, normals, offsets, marks, buffer);
+    let answer = list(
+        k, n, h, points, live, order, normals, offsets, marks, buffer,
+    );
     let three = [answer.inside, answer.outside, answer.visits];
     (answer.code, (three, places))
 }
@@ -167,6 +173,7 @@ fn three_regions() {
         6,
         3,
         &A,
+        &[1; 6],
         &A_ORDER,
         &[2, 0, 1],
         &[1, 1, -1, 0, 1, 0],
@@ -358,6 +365,7 @@ fn right() -> Lent {
         n: 2,
         regions: 2,
         points: vec![0, 10],
+        live: vec![1; 2],
         order: vec![0, 1, 70],
         face_counts: vec![1, 2],
         normals: vec![1, -1, 1],
@@ -382,8 +390,8 @@ fn right_call() {
 type Break = (u32, fn(&mut Lent));
 
 /// Breaks for each number, in the call's order from the last test to the first:
-/// 9, then 11, then 8 down to 4, then 14, then 3 down to 1.
-const BREAKS: [Break; 28] = [
+/// 9, then 11, then 8 down to 4, then 14 and 15, then 3 down to 1.
+const BREAKS: [Break; 30] = [
     (9, |lent| lent.order[1] = 0),
     (9, |lent| lent.order[0] = 2),
     (11, |lent| lent.marks[2] = 2),
@@ -407,6 +415,8 @@ const BREAKS: [Break; 28] = [
     (14, |lent| lent.face_counts.truncate(1)),
     (14, |lent| lent.regions = 65),
     (14, |lent| lent.regions = 0),
+    (15, |lent| lent.live.push(1)),
+    (15, |lent| lent.live[0] = 2),
     (3, |lent| lent.points.push(0)),
     (3, |lent| lent.points.truncate(1)),
     (2, |lent| lent.n = 65_536),
@@ -709,6 +719,7 @@ fn greatest_counts_are_refused() {
             regions,
             &[],
             &[],
+            &[],
             face_counts,
             &[],
             &[],
@@ -857,7 +868,8 @@ fn equal_to_the_one_point_tests() {
             );
             let backwards: Vec<u32> = back.into_iter().rev().collect();
             assert_eq!(places, [front, backwards].concat());
-            let open = open_slots(k, n, h, points, order, normals, offsets, marks).unwrap();
+            let open =
+                open_slots(k, n, h, points, &vec![1; n], order, normals, offsets, marks).unwrap();
             assert_eq!(visits as usize, open.iter().filter(|&&open| open).count());
         }
     }
@@ -878,7 +890,7 @@ fn both_visit_bounds() {
             let normal = |face: usize| &normals[face * k..(face + 1) * k];
             let of_face = |face: usize| {
                 let (m, mark) = (offsets[face], marks[face]);
-                visits_of_face(k, n, points, order, normal(face), m, mark).unwrap()
+                visits_of_face(k, n, points, &vec![1; n], order, normal(face), m, mark).unwrap()
             };
             assert!(visits <= (0..h).map(of_face).sum::<u32>());
             if (0..h).all(|face| is_square(normal(face))) {

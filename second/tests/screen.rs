@@ -1,5 +1,5 @@
-//! The screen: worked examples, and random shelves against list and the
-//! one-point test.
+//! The screen, every point live: worked examples, and random shelves against list
+//! and the one-point test.
 
 use second::{build, list, open_slots, place, screen, Listing, Screening};
 
@@ -9,8 +9,9 @@ const TWO_OFFSETS: [i64; 2] = [7, -6];
 
 /// Builds the order of these points, which must be done.
 fn built(k: usize, points: &[i32]) -> Vec<u32> {
-    let mut order = vec![77; points.len() / k];
-    assert_eq!(build(k, order.len(), points, &mut order), 0);
+    let n = points.len() / k;
+    let mut order = vec![77; n];
+    assert_eq!(build(k, n, points, &vec![1; n], &mut order), 0);
     order
 }
 
@@ -18,7 +19,8 @@ fn built(k: usize, points: &[i32]) -> Vec<u32> {
 fn screened(k: usize, points: &[i32], normals: &[i32], offsets: &[i64]) -> Screening {
     let order = built(k, points);
     let (n, h) = (order.len(), offsets.len());
-    screen(k, n, h, points, &order, normals, offsets, &vec![0; h])
+    let (live, marks) = (vec![1; n], vec![0; h]);
+    screen(k, n, h, points, &live, &order, normals, offsets, &marks)
 }
 
 /// Lists a built shelf, every face closed: the numbers of the answer and the
@@ -32,6 +34,7 @@ fn listed(k: usize, points: &[i32], normals: &[i32], offsets: &[i64]) -> (Listin
         n,
         h,
         points,
+        &vec![1; n],
         &order,
         normals,
         offsets,
@@ -165,6 +168,7 @@ fn found_slot_settled() {
         5,
         2,
         &points,
+        &[1; 5],
         &[0, 1, 2, 3, 4],
         &normals,
         &offsets,
@@ -178,7 +182,7 @@ fn found_slot_settled() {
 #[test]
 fn later_places_are_not_read() {
     for later in [0, 1, 2, u32::MAX] {
-        let answer = screen(1, 2, 1, &[0, 10], &[0, 1, later], &[1], &[5], &[0]);
+        let answer = screen(1, 2, 1, &[0, 10], &[1; 2], &[0, 1, later], &[1], &[5], &[0]);
         assert_eq!(answer, found(1, 2));
     }
 }
@@ -199,8 +203,8 @@ fn thrown(state: &mut u64, count: usize, most: i64) -> Vec<i64> {
 fn slot_by_slot(k: usize, points: &[i32], normals: &[i32], offsets: &[i64]) -> Screening {
     let order = built(k, points);
     let (n, h) = (order.len(), offsets.len());
-    let marks = vec![0; h];
-    let open = open_slots(k, n, h, points, &order, normals, offsets, &marks).unwrap();
+    let (live, marks) = (vec![1; n], vec![0; h]);
+    let open = open_slots(k, n, h, points, &live, &order, normals, offsets, &marks).unwrap();
     let mut visits = 0;
     for (slot, &number) in order.iter().enumerate() {
         visits += u32::from(open[slot]);

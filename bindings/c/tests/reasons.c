@@ -7,6 +7,7 @@ enum { K = 2, N = 6 };
 
 /* The six points of the README, their shelf with a place behind it, and an order that is not their shelf. */
 static const int32_t points[K * N] = {1, 5, 4, 2, 4, 8, 7, 1, 6, 6, 2, 2};
+static const uint8_t live[N] = {1, 1, 1, 1, 1, 1};
 static const uint32_t order[N + 1] = {1, 5, 0, 2, 3, 4, 77}, wrong_order[N] = {5, 1, 0, 2, 3, 4};
 
 /* 1 where an answer has these numbers. */
@@ -21,7 +22,7 @@ static hornherder_explaining two_faces(uint32_t number, uint8_t mark)
     const int32_t normals[K * 2] = {1, 1, -1, 0};
     const int64_t offsets[2] = {7, -6};
     const uint8_t marks[2] = {HORNHERDER_CLOSED_FACE, mark};
-    return hornherder_explain(K, N, 2, number, points, K * N, order, N + 1, normals, K * 2, offsets, 2, marks, 2);
+    return hornherder_explain(K, N, 2, number, points, K * N, live, N, order, N + 1, normals, K * 2, offsets, 2, marks, 2);
 }
 
 /* The answer for a number with one closed face on x. */
@@ -29,13 +30,13 @@ static hornherder_explaining one_face(uint32_t number, int64_t offset)
 {
     const int32_t normal[K] = {1, 0};
     const uint8_t mark = HORNHERDER_CLOSED_FACE;
-    return hornherder_explain(K, N, 1, number, points, K * N, order, N, normal, K, &offset, 1, &mark, 1);
+    return hornherder_explain(K, N, 1, number, points, K * N, live, N, order, N, normal, K, &offset, 1, &mark, 1);
 }
 
 /* The answer for a number with no faces, by this order. */
 static hornherder_explaining no_faces(uint32_t number, const uint32_t *slots)
 {
-    return hornherder_explain(K, N, 0, number, points, K * N, slots, N, NULL, 0, NULL, 0, NULL, 0);
+    return hornherder_explain(K, N, 0, number, points, K * N, live, N, slots, N, NULL, 0, NULL, 0, NULL, 0);
 }
 
 /* 1 where the least coordinates have the least margin there is, with the branch of their one slot. */
@@ -46,15 +47,15 @@ static int is_least(void)
     const int64_t offset = HORNHERDER_MAX_OFFSET;
     const uint32_t slot = 0;
     const uint8_t mark = HORNHERDER_CLOSED_FACE;
-    hornherder_explaining answer = hornherder_explain(4, 1, 1, 0, point, 4, &slot, 1, normal, 4, &offset, 1, &mark, 1);
+    hornherder_explaining answer = hornherder_explain(4, 1, 1, 0, point, 4, live, 1, &slot, 1, normal, 4, &offset, 1, &mark, 1);
     return is(answer, HORNHERDER_DONE, HORNHERDER_OUTSIDE_WITH_BRANCH, 0, 0, HORNHERDER_MIN_MARGIN);
 }
 
-/* 1 where the refusals come in their order: 9 before 13, and both with zeros. */
+/* 1 where the refusals come in their order: 9 before 17, and both with zeros. */
 static int refuses(void)
 {
-    return is(no_faces(N, order), HORNHERDER_NO_SUCH_NUMBER, 0, 0, 0, 0) &&
-           is(no_faces(UINT32_MAX, order), HORNHERDER_NO_SUCH_NUMBER, 0, 0, 0, 0) &&
+    return is(no_faces(N, order), HORNHERDER_NOT_LIVE, 0, 0, 0, 0) &&
+           is(no_faces(UINT32_MAX, order), HORNHERDER_NOT_LIVE, 0, 0, 0, 0) &&
            is(no_faces(N, wrong_order), HORNHERDER_NOT_THE_TREE, 0, 0, 0, 0) &&
            is(no_faces(0, wrong_order), HORNHERDER_NOT_THE_TREE, 0, 0, 0, 0) && is(two_faces(N, 2), HORNHERDER_MARKS, 0, 0, 0, 0);
 }

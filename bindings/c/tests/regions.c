@@ -9,6 +9,7 @@ enum { LISTS = REGIONS * N + BEHIND, COUNTS = REGIONS * 3 + BEHIND };
 
 /* The six points of the README, their shelf with a place behind it, and an order that is not their shelf. */
 static const int32_t points[K * N] = {1, 5, 4, 2, 4, 8, 7, 1, 6, 6, 2, 2};
+static const uint8_t live[N] = {1, 1, 1, 1, 1, 1};
 static const uint32_t order[N + 1] = {1, 5, 0, 2, 3, 4, 77}, wrong_order[N] = {5, 1, 0, 2, 3, 4};
 
 /* Three regions: the two faces of the README, none, and x > 4. */
@@ -33,9 +34,9 @@ static uint32_t call(changed with)
 {
     memset(lists, 0xA5, sizeof lists);
     memset(counts, 0xA5, sizeof counts);
-    return hornherder_list_regions(K, N, with.regions, points, K * N, with.order, with.order_len, with.face_counts, with.face_counts_len,
-                                   normals, with.normals_len, offsets, H, with.marks, H, lists, with.lists_len, counts,
-                                   with.counts_len);
+    return hornherder_list_regions(K, N, with.regions, points, K * N, live, N, with.order, with.order_len, with.face_counts,
+                                   with.face_counts_len, normals, with.normals_len, offsets, H, with.marks, H, lists, with.lists_len,
+                                   counts, with.counts_len);
 }
 
 /* 1 where the places of both buffers from these on hold what they held before the call. */
@@ -61,7 +62,7 @@ static int is_as_alone(size_t region, size_t face)
     const size_t h = face_counts[region];
     const uint32_t *three = &counts[3 * region];
     uint32_t list[N];
-    hornherder_listing alone = hornherder_list(K, N, h, points, K * N, order, N, &normals[K * face], K * h, &offsets[face], h,
+    hornherder_listing alone = hornherder_list(K, N, h, points, K * N, live, N, order, N, &normals[K * face], K * h, &offsets[face], h,
                                                &marks[face], h, list, N);
     return alone.code == HORNHERDER_DONE && alone.inside == three[0] && alone.outside == three[1] && alone.visits == three[2] &&
            memcmp(list, &lists[region * N], sizeof list) == 0;
@@ -80,8 +81,8 @@ static int empty_regions(size_t regions, uint32_t code)
 {
     static const uint32_t none[MOST + 1] = {0};
     static uint32_t threes[3 * (MOST + 1)];
-    return hornherder_list_regions(K, 0, regions, NULL, 0, NULL, 0, none, regions, NULL, 0, NULL, 0, NULL, 0, NULL, 0, threes,
-                                   3 * regions) == code;
+    return hornherder_list_regions(K, 0, regions, NULL, 0, NULL, 0, NULL, 0, none, regions, NULL, 0, NULL, 0, NULL, 0, NULL, 0,
+                                   threes, 3 * regions) == code;
 }
 
 /* 1 where every length that is not as it should be is refused. */

@@ -4,7 +4,7 @@
 //! answer that its definitions say. This crate has two layers:
 //!
 //! - [`Shelf`], [`Region`], [`Listing`], [`Screening`], [`Reason`], [`Placing`] and [`Reading`], which derive
-//!   the numbers of points and of faces and give each refusal as a [`Refusal`];
+//!   the counts of numbers and of faces and give each refusal as a [`Refusal`];
 //! - [`raw`], the calls themselves with every number and slice as given.
 //!
 //! ```
@@ -46,6 +46,9 @@
 //! # Ok::<(), hornherder::Refusal>(())
 //! ```
 //!
+//! Pictures come and go: [`Shelf::take`] gives a point the lowest number that is free, [`Shelf::withdraw`]
+//! frees a number, and [`Shelf::arrange`] arranges the points that are left.
+//!
 //! A [`Reading`] makes points of the renderer's floats.
 //!
 //! The first shelf, region or point that is made asks the library for its version; one of another version is
@@ -65,6 +68,7 @@
 
 mod joined;
 mod listing;
+mod live;
 mod placing;
 pub mod raw;
 mod reading;
@@ -90,7 +94,7 @@ struct Readme;
 
 /// The most coordinates that a point can have; the fewest are 1.
 pub const MAX_DIMENSION: usize = 4;
-/// The most points on a shelf.
+/// The most numbers on a shelf, live ones and free ones.
 pub const MAX_POINTS: usize = 65_535;
 /// The least coordinate.
 pub const MIN_COORDINATE: i32 = -32_768;

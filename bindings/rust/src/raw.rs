@@ -10,14 +10,15 @@
 //! use hornherder::raw;
 //!
 //! let points = [0, 10];
+//! let live = [raw::LIVE; 2];
 //! let mut order = [7, 7, 7];
-//! assert_eq!(raw::build(1, 2, &points, &mut order), 0);
-//! assert_eq!(order, [0, 1, 7]); // places from n on are left alone
-//! assert_eq!(raw::check(1, 2, &points, &[1, 0]), 9);
+//! assert_eq!(raw::build(1, 2, &points, &live, &mut order), 0);
+//! assert_eq!(order, [0, 1, 7]); // places behind the last live number are left alone
+//! assert_eq!(raw::check(1, 2, &points, &live, &[1, 0]), 9);
 //!
 //! let mut list = [0; 2];
 //! let closed = [raw::CLOSED_FACE];
-//! let answer = raw::list(1, 2, 1, &points, &order, &[1], &[5], &closed, &mut list);
+//! let answer = raw::list(1, 2, 1, &points, &live, &order, &[1], &[5], &closed, &mut list);
 //! assert_eq!((answer.inside, answer.outside, answer.visits), (1, 1, 2));
 //!
 //! // Several regions in one call: here one with the same face, and one with none. The list buffer has two
@@ -25,18 +26,21 @@
 //! let (mut lists, mut counts) = ([0; 4], [0; 6]);
 //! let mut list_regions = |regions, face_counts: &[u32]| {
 //!     let (lists, counts) = (&mut lists, &mut counts);
-//!     raw::list_regions(1, 2, regions, &points, &order, face_counts, &[1], &[5], &closed, lists, counts)
+//!     #[rustfmt::skip]
+//!     let code = raw::list_regions(1, 2, regions, &points, &live, &order, face_counts, &[1], &[5], &closed, lists, counts);
+//!     code
 //! };
 //! assert_eq!(list_regions(1, &[1, 0]), 14); // two face counts for one region
 //! assert_eq!(list_regions(2, &[1, 0]), 0);
 //! assert_eq!((lists, counts), ([1, 0, 0, 1], [1, 1, 2, 2, 0, 0]));
 //!
-//! let answer = raw::screen(1, 2, 1, &points, &order, &[1], &[5], &closed);
+//! let answer = raw::screen(1, 2, 1, &points, &live, &order, &[1], &[5], &closed);
 //! assert_eq!((answer.found, answer.number, answer.visits), (1, 1, 2));
-//! let answer = raw::explain(1, 2, 1, 0, &points, &order, &[1], &[5], &closed);
+//! let answer = raw::explain(1, 2, 1, 0, &points, &live, &order, &[1], &[5], &closed);
 //! assert_eq!((answer.reason, answer.slot), (raw::OUTSIDE_BY_ITSELF, 0));
 //! assert_eq!((answer.face, answer.margin), (0, -5));
-//! assert_eq!(raw::explain(1, 2, 0, 2, &points, &order, &[], &[], &[]).code, 13); // there is no point 2
+//! assert_eq!(raw::explain(1, 2, 0, 2, &points, &live, &order, &[], &[], &[]).code, 17); // there is no point 2
+//!
 //! let answer = raw::place(1, 1, &[5], &[1], &[5], &closed);
 //! assert_eq!((answer.inside, answer.measured, answer.face, answer.margin), (1, 1, 0, 0));
 //! assert_eq!(raw::place(1, 1, &[5], &[1], &[5], &[raw::OPEN_FACE]).inside, 0);
@@ -50,14 +54,31 @@
 //! assert_eq!(raw::point_from_grey(f32::NAN, &mut place).code, 12);
 //! assert_eq!(raw::point_from_nothing(&mut place).made, 0);
 //! assert_eq!(place, [256, -128, 25]); // as they were
+//!
+//! // Number 1 is withdrawn, so the order's first place alone is read. Then another point gets the number.
+//! let (mut points, mut live) = (points, live);
+//! assert_eq!(raw::withdraw(2, 1, &mut live), 0);
+//! assert_eq!(raw::check(1, 2, &points, &live, &order), 0);
+//! assert_eq!(raw::withdraw(2, 1, &mut live), 17); // it is dead
+//! let answer = raw::take(1, 2, &mut points, &mut live, &[-5]);
+//! assert_eq!((answer.code, answer.number), (0, 1));
+//! assert_eq!((points, live), ([0, -5], [1, 1]));
+//! assert_eq!(raw::check(1, 2, &points, &live, &order), 9); // the shelf is 1 0 now
+//! assert_eq!(raw::take(1, 2, &mut points, &mut live, &[3]).code, 16); // both are live
 //! assert_eq!(raw::version(), raw::VERSION);
 //! ```
 
 /// The version of the calls and of the archive: the header's `HORNHERDER_VERSION`.
-pub const VERSION: u32 = 8;
+pub const VERSION: u32 = 9;
 
 /// The stack that is enough for any call, in bytes.
 pub const STACK_BYTES: usize = 32_768;
+
+/// The live byte of a number that is free to be taken.
+pub const DEAD: u8 = 0;
+
+/// The live byte of a number that has a point.
+pub const LIVE: u8 = 1;
 
 /// The mark of a closed face: a point on it is above it.
 pub const CLOSED_FACE: u8 = 0;
@@ -76,6 +97,17 @@ pub const OUTSIDE_WITH_BRANCH: u8 = 3;
 
 /// The reason "outside by its own test".
 pub const OUTSIDE_BY_ITSELF: u8 = 4;
+
+/// What [`take`] answers.
+#[must_use]
+#[repr(C)]
+#[derive(Clone, Copy, Debug, Default, PartialEq, Eq)]
+pub struct Taking {
+    /// 0 for done, or the number of the refusal.
+    pub code: u32,
+    /// The number that the point has now.
+    pub number: u32,
+}
 
 /// What [`list`] answers.
 #[must_use]
@@ -161,6 +193,8 @@ extern "C" {
         n: usize,
         points: *const i32,
         points_len: usize,
+        live: *const u8,
+        live_len: usize,
         order: *mut u32,
         order_len: usize,
     ) -> u32;
@@ -170,9 +204,24 @@ extern "C" {
         n: usize,
         points: *const i32,
         points_len: usize,
+        live: *const u8,
+        live_len: usize,
         order: *const u32,
         order_len: usize,
     ) -> u32;
+
+    fn hornherder_take(
+        k: usize,
+        n: usize,
+        points: *mut i32,
+        points_len: usize,
+        live: *mut u8,
+        live_len: usize,
+        point: *const i32,
+        point_len: usize,
+    ) -> Taking;
+
+    fn hornherder_withdraw(n: usize, number: u32, live: *mut u8, live_len: usize) -> u32;
 
     fn hornherder_list(
         k: usize,
@@ -180,6 +229,8 @@ extern "C" {
         h: usize,
         points: *const i32,
         points_len: usize,
+        live: *const u8,
+        live_len: usize,
         order: *const u32,
         order_len: usize,
         normals: *const i32,
@@ -198,6 +249,8 @@ extern "C" {
         regions: usize,
         points: *const i32,
         points_len: usize,
+        live: *const u8,
+        live_len: usize,
         order: *const u32,
         order_len: usize,
         face_counts: *const u32,
@@ -220,6 +273,8 @@ extern "C" {
         h: usize,
         points: *const i32,
         points_len: usize,
+        live: *const u8,
+        live_len: usize,
         order: *const u32,
         order_len: usize,
         normals: *const i32,
@@ -237,6 +292,8 @@ extern "C" {
         number: u32,
         points: *const i32,
         points_len: usize,
+        live: *const u8,
+        live_len: usize,
         order: *const u32,
         order_len: usize,
         normals: *const i32,
@@ -275,12 +332,14 @@ extern "C" {
     fn hornherder_version() -> u32;
 }
 
-// In every call below the pointers and lengths are those of live slices, and a slice that is written is
+// In every call below the pointers and lengths are those of slices, and a slice that is written is
 // borrowed alone. The library asks for nothing more; where a length is 0 it takes any pointer.
+// In what they say v is how many live bytes are 1.
 
-/// Writes the shelf of the points into the first `n` places of `order`. Refusals: 1 to 5.
+/// Writes the shelf of the live points into the first v places of `order`. Refusals: 1, 2, 3, then 15, then
+/// 4, 5.
 #[must_use]
-pub fn build(k: usize, n: usize, points: &[i32], order: &mut [u32]) -> u32 {
+pub fn build(k: usize, n: usize, points: &[i32], live: &[u8], order: &mut [u32]) -> u32 {
     // SAFETY: as said above.
     unsafe {
         hornherder_build(
@@ -288,16 +347,18 @@ pub fn build(k: usize, n: usize, points: &[i32], order: &mut [u32]) -> u32 {
             n,
             points.as_ptr(),
             points.len(),
+            live.as_ptr(),
+            live.len(),
             order.as_mut_ptr(),
             order.len(),
         )
     }
 }
 
-/// Says 0 exactly where the first `n` places of `order` are the shelf of the points. Refusals: 1 to 5, then
-/// 9.
+/// Says 0 exactly where the first v places of `order` are the shelf of the live points. Refusals: 1, 2, 3,
+/// then 15, then 4, 5, then 9.
 #[must_use]
-pub fn check(k: usize, n: usize, points: &[i32], order: &[u32]) -> u32 {
+pub fn check(k: usize, n: usize, points: &[i32], live: &[u8], order: &[u32]) -> u32 {
     // SAFETY: as said above.
     unsafe {
         hornherder_check(
@@ -305,20 +366,49 @@ pub fn check(k: usize, n: usize, points: &[i32], order: &[u32]) -> u32 {
             n,
             points.as_ptr(),
             points.len(),
+            live.as_ptr(),
+            live.len(),
             order.as_ptr(),
             order.len(),
         )
     }
 }
 
-/// Writes the numbers inside from the front of `list`, and those outside from place `n - 1` backwards,
-/// both in shelf order. The order is checked first. Refusals: 1 to 8, then 11, then 9.
+/// Writes a point at the lowest dead number, sets its live byte and answers the number. The order is not
+/// asked for. Refusals: 1, 2, 3, then 15, then 5, then 16; 3 and 5 are asked of the new point too.
+pub fn take(k: usize, n: usize, points: &mut [i32], live: &mut [u8], point: &[i32]) -> Taking {
+    // SAFETY: as said above.
+    unsafe {
+        hornherder_take(
+            k,
+            n,
+            points.as_mut_ptr(),
+            points.len(),
+            live.as_mut_ptr(),
+            live.len(),
+            point.as_ptr(),
+            point.len(),
+        )
+    }
+}
+
+/// Clears the live byte of a number that is live. Points and order are not asked for. Refusals: 2, then 15,
+/// then 17.
+#[must_use]
+pub fn withdraw(n: usize, number: u32, live: &mut [u8]) -> u32 {
+    // SAFETY: as said above.
+    unsafe { hornherder_withdraw(n, number, live.as_mut_ptr(), live.len()) }
+}
+
+/// Writes the numbers inside from the front of `list`, and those outside from place v - 1 backwards, both in
+/// shelf order. The order is checked first. Refusals: 1, 2, 3, then 15, then 4 to 8, then 11, then 9.
 #[allow(clippy::too_many_arguments)]
 pub fn list(
     k: usize,
     n: usize,
     h: usize,
     points: &[i32],
+    live: &[u8],
     order: &[u32],
     normals: &[i32],
     offsets: &[i64],
@@ -333,6 +423,8 @@ pub fn list(
             h,
             points.as_ptr(),
             points.len(),
+            live.as_ptr(),
+            live.len(),
             order.as_ptr(),
             order.len(),
             normals.as_ptr(),
@@ -348,8 +440,9 @@ pub fn list(
 }
 
 /// Lists each of several regions, whose faces stand end to end: region `r` as [`list`] does with its faces
-/// alone, from place `r * n` of `lists` on, and its numbers inside, outside and of visits from place `3 * r`
-/// of `counts` on. The order is checked once. Refusals: 1, 2, 3, then 14, then 4 to 8, then 11, then 9.
+/// alone, from place r times v of `lists` on, and its numbers inside, outside and of visits from place
+/// `3 * r` of `counts` on. The order is checked once. Refusals: 1, 2, 3, then 15, then 14, then 4 to 8, then
+/// 11, then 9.
 #[must_use]
 #[allow(clippy::too_many_arguments)]
 pub fn list_regions(
@@ -357,6 +450,7 @@ pub fn list_regions(
     n: usize,
     regions: usize,
     points: &[i32],
+    live: &[u8],
     order: &[u32],
     face_counts: &[u32],
     normals: &[i32],
@@ -373,6 +467,8 @@ pub fn list_regions(
             regions,
             points.as_ptr(),
             points.len(),
+            live.as_ptr(),
+            live.len(),
             order.as_ptr(),
             order.len(),
             face_counts.as_ptr(),
@@ -392,13 +488,14 @@ pub fn list_regions(
 }
 
 /// Gives the first number inside, in shelf order, or says that there is none; it stops as soon as it has
-/// one. The order is checked first. Refusals: 1 to 8, then 11, then 9.
+/// one. The order is checked first. Refusals: 1, 2, 3, then 15, then 4 to 8, then 11, then 9.
 #[allow(clippy::too_many_arguments)]
 pub fn screen(
     k: usize,
     n: usize,
     h: usize,
     points: &[i32],
+    live: &[u8],
     order: &[u32],
     normals: &[i32],
     offsets: &[i64],
@@ -412,6 +509,8 @@ pub fn screen(
             h,
             points.as_ptr(),
             points.len(),
+            live.as_ptr(),
+            live.len(),
             order.as_ptr(),
             order.len(),
             normals.as_ptr(),
@@ -425,7 +524,7 @@ pub fn screen(
 }
 
 /// Says why the point of this number is inside or outside: with a whole branch of the shelf, or by its own
-/// test. The order is checked first. Refusals: 1 to 8, then 11, then 9, then 13.
+/// test. The order is checked first. Refusals: 1, 2, 3, then 15, then 4 to 8, then 11, then 9, then 17.
 #[allow(clippy::too_many_arguments)]
 pub fn explain(
     k: usize,
@@ -433,6 +532,7 @@ pub fn explain(
     h: usize,
     number: u32,
     points: &[i32],
+    live: &[u8],
     order: &[u32],
     normals: &[i32],
     offsets: &[i64],
@@ -447,6 +547,8 @@ pub fn explain(
             number,
             points.as_ptr(),
             points.len(),
+            live.as_ptr(),
+            live.len(),
             order.as_ptr(),
             order.len(),
             normals.as_ptr(),

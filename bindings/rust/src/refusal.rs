@@ -70,16 +70,18 @@ refusals! {
     Dimension = 1, "k is not 1 to 4", "points of more than four coordinates (in a text 5 to 9)";
     TooManyPoints = 2, "n is over 65,535", "a stock for several shelves";
     PointsLength = 3, "the points are not k times n long (one point: not k; a place for a point: not 3)", "n counted in coordinates, or a k of another shelf";
-    ShortBuffer = 4, "the order or the list buffer is shorter than n (several regions: the list buffer than n for each, or the counts than 3 for each)", "a buffer of an older, smaller shelf";
-    CoordinateRange = 5, "a coordinate is not -32,768 to 32,767", "colours on another scale";
+    ShortBuffer = 4, "the order or the list buffer is shorter than v, the count of live numbers (several regions: the list buffer than v for each, or the counts than 3 for each)", "a buffer of an older, smaller shelf";
+    CoordinateRange = 5, "a coordinate is not -32,768 to 32,767 (dead numbers aside)", "colours on another scale";
     TooManyFaces = 6, "h is over 32", "faces that cut nothing off (in a text 33 to 64 faces)";
     FacesLength = 7, "the normals are not k times h long, or the offsets not h (several regions: h of all together)", "a face too many in one of the two, or faces of another dimension";
     FaceRange = 8, "a component is not -32,767 to 32,767, or an offset not -8,589,934,592 to 8,589,934,592", "a normal scaled too far, or an offset in a component's place";
-    NotTheTree = 9, "the first n slots are not the tree of these points", "the points changed, or the order is of another shelf: build again";
+    NotTheTree = 9, "the first v slots are not the tree of the live points", "points taken or withdrawn, or an order of another shelf: build again";
     Marks = 11, "the marks are not h long (several regions: h of all together), or a mark is not 0 or 1", "closed faces left without a mark, or marks never set";
     ValueRange = 12, "a value is not finite, or not from -128 up to but not including 128", "a pixel that was never rendered, or values on a scale of 0 to 255";
-    NoSuchNumber = 13, "the number is n or more", "numbers counted from 1, or a number of another, larger shelf";
     RegionCount = 14, "the region count is not 1 to 64, or the face counts are not as many", "no region at all, or more than one call takes";
+    LiveBytes = 15, "the live bytes are not n long, or one is not 0 or 1", "bytes for the live numbers alone, or bytes never set";
+    NoneDead = 16, "all n numbers are live", "a stock that has outgrown its n";
+    NotLive = 17, "the number is dead, or n or more", "a picture withdrawn before, or numbers counted from 1";
 }
 
 impl Refusal {

@@ -10,14 +10,24 @@ use crate::screening::Screening;
 use crate::MAX_REGIONS;
 use std::borrow::Cow;
 
-/// Points arranged as a k-d tree. Whatever its history, its order is the tree of its points.
+/// Points arranged as a k-d tree. It has [`numbers`](Shelf::numbers) numbers, of which the
+/// [live](Shelf::live) ones, [`len`](Shelf::len) of them, have a point; the others are free. A shelf that is made
+/// has the tree of its points for its order. [`take`](Shelf::take) and [`withdraw`](Shelf::withdraw) leave the
+/// order alone: after them the calls that need the tree are refused with [`Refusal::NotTheTree`], unless the
+/// order is still the tree, until [`arrange`](Shelf::arrange) makes it anew.
 ///
-/// Points and order may be owned or borrowed: give a `Vec` or a slice.
-#[derive(Clone, Debug, PartialEq, Eq)]
+/// Points, live bytes and order may be owned or borrowed: give a `Vec` or a slice. What is borrowed is copied
+/// before it is changed. Two shelves are the same where their live numbers, the points of these and the slots are:
+/// nothing depends on the coordinates of a number that is free.
+#[derive(Clone, Debug)]
 pub struct Shelf<'s> {
-    k: usize,
-    points: Cow<'s, [i32]>,
-    order: Cow<'s, [u32]>,
+    pub(crate) k: usize,
+    pub(crate) points: Cow<'s, [i32]>,
+    pub(crate) live: Cow<'s, [u8]>,
+    /// At least as many places as there are live numbers; those behind hold anything.
+    pub(crate) order: Cow<'s, [u32]>,
+    /// How many live numbers there are.
+    pub(crate) count: usize,
 }
 
 impl<'s> Shelf<'s> {
@@ -32,13 +42,34 @@ impl<'s> Shelf<'s> {
     /// # Ok::<(), hornherder::Refusal>(())
     /// ```
     pub fn build(k: usize, points: impl Into<Cow<'s, [i32]>>) -> Result<Shelf<'s>, Refusal> {
-        same_version()?;
         let points = points.into();
+        let live = all_live(numbered(k, &points));
+        Shelf::build_live(k, points, live)
+    }
+
+    /// Arranges those of these points whose number is live: for each number [`raw::LIVE`] or [`raw::DEAD`]. The
+    /// coordinates of the others may be any numbers.
+    ///
+    /// ```
+    /// use hornherder::{Refusal, Shelf};
+    ///
+    /// let shelf = Shelf::build_live(1, vec![30, i32::MAX, 20], vec![1, 0, 1])?;
+    /// assert_eq!((shelf.numbers(), shelf.len()), (3, 2));
+    /// assert_eq!(shelf.order(), [2, 0]);
+    /// assert_eq!(Shelf::build_live(1, vec![30, 20], vec![1, 2]), Err(Refusal::LiveBytes));
+    /// # Ok::<(), hornherder::Refusal>(())
+    /// ```
+    pub fn build_live(
+        k: usize,
+        points: impl Into<Cow<'s, [i32]>>,
+        live: impl Into<Cow<'s, [u8]>>,
+    ) -> Result<Shelf<'s>, Refusal> {
+        same_version()?;
+        let (points, live) = (points.into(), live.into());
         let n = numbered(k, &points);
-        let mut order = vec![0; n];
-        done(raw::build(k, n, &points, &mut order))?;
-        let order = order.into();
-        Ok(Shelf { k, points, order })
+        let mut order = vec![NO_NUMBER; n];
+        done(raw::build(k, n, &points, &live, &mut order))?;
+        Ok(Shelf::new(k, points, live, order.into()))
     }
 
     /// Takes points with an order that was built before, and checks it. Places of the order behind the
@@ -57,18 +88,50 @@ impl<'s> Shelf<'s> {
         points: impl Into<Cow<'s, [i32]>>,
         order: impl Into<Cow<'s, [u32]>>,
     ) -> Result<Shelf<'s>, Refusal> {
+        let points = points.into();
+        let live = all_live(numbered(k, &points));
+        Shelf::with_live_order(k, points, live, order)
+    }
+
+    /// Takes points and live bytes with an order that was built of them before, and checks it. Places of the
+    /// order behind the last live number do not matter.
+    ///
+    /// ```
+    /// use hornherder::Shelf;
+    ///
+    /// // The order of before number 1 was withdrawn: its first place is the shelf of the one point left.
+    /// let shelf = Shelf::with_live_order(1, vec![0, 10], vec![1, 0], vec![0, 1])?;
+    /// assert_eq!(shelf.order(), [0]);
+    /// # Ok::<(), hornherder::Refusal>(())
+    /// ```
+    pub fn with_live_order(
+        k: usize,
+        points: impl Into<Cow<'s, [i32]>>,
+        live: impl Into<Cow<'s, [u8]>>,
+        order: impl Into<Cow<'s, [u32]>>,
+    ) -> Result<Shelf<'s>, Refusal> {
         same_version()?;
-        let (points, order) = (points.into(), order.into());
+        let (points, live, order) = (points.into(), live.into(), order.into());
         let n = numbered(k, &points);
-        done(raw::check(k, n, &points, &order))?;
-        let order = match order {
-            Cow::Borrowed(slots) => Cow::Borrowed(&slots[..n]),
-            Cow::Owned(mut slots) => {
-                slots.truncate(n);
-                Cow::Owned(slots)
-            }
-        };
-        Ok(Shelf { k, points, order })
+        done(raw::check(k, n, &points, &live, &order))?;
+        Ok(Shelf::new(k, points, live, order))
+    }
+
+    /// The shelf of what the library has accepted.
+    fn new(
+        k: usize,
+        points: Cow<'s, [i32]>,
+        live: Cow<'s, [u8]>,
+        order: Cow<'s, [u32]>,
+    ) -> Shelf<'s> {
+        let count = live.iter().filter(|byte| **byte == raw::LIVE).count();
+        Shelf {
+            k,
+            points,
+            live,
+            order,
+            count,
+        }
     }
 
     /// The dimension: how many coordinates a point has.
@@ -76,29 +139,42 @@ impl<'s> Shelf<'s> {
         self.k
     }
 
-    /// How many points there are.
+    /// How many points there are, which is how many numbers are live.
     pub fn len(&self) -> usize {
-        self.order.len()
+        self.count
     }
 
     /// Whether there are no points.
     pub fn is_empty(&self) -> bool {
-        self.order.is_empty()
+        self.count == 0
     }
 
-    /// All coordinates, point 0 first.
+    /// How many numbers there are, live ones and free ones.
+    pub fn numbers(&self) -> usize {
+        self.live.len()
+    }
+
+    /// For each number its live byte: [`raw::LIVE`], or [`raw::DEAD`] where it is free.
+    pub fn live(&self) -> &[u8] {
+        &self.live
+    }
+
+    /// The coordinates of all numbers, number 0 first. Those of a free number are whatever stood there last.
     pub fn points(&self) -> &[i32] {
         &self.points
     }
 
     /// The coordinates of the point with this number, if there is one.
     pub fn point(&self, number: u32) -> Option<&[i32]> {
-        self.points.chunks_exact(self.k).nth(number as usize)
+        let number = number as usize;
+        let live = self.live.get(number) == Some(&raw::LIVE);
+        live.then(|| &self.points[number * self.k..][..self.k])
     }
 
-    /// The number in each slot.
+    /// The number in each slot, as many as there are points. After [`take`](Shelf::take) and
+    /// [`withdraw`](Shelf::withdraw) it is what stood there before, until [`arrange`](Shelf::arrange).
     pub fn order(&self) -> &[u32] {
-        &self.order
+        &self.order[..self.count]
     }
 
     /// Lists the points inside and outside a region into a buffer of at least [`len`](Shelf::len) places.
@@ -117,16 +193,18 @@ impl<'s> Shelf<'s> {
     /// # Ok::<(), hornherder::Refusal>(())
     /// ```
     ///
-    /// Refused are a buffer with too few places, and faces made for another dimension.
+    /// Refused are a buffer with too few places, faces made for another dimension, and an order that is no
+    /// longer the tree.
     ///
-    /// The library checks the order first, though a shelf's is right, and that is most of the call: see
-    /// [what a call costs](crate).
+    /// The library checks the order first, though that of a shelf just made is right, and that is most of the
+    /// call: see [what a call costs](crate).
     pub fn list<'l>(&self, region: &Region, buffer: &'l mut [u32]) -> Result<Listing<'l>, Refusal> {
         let answer = raw::list(
             self.k,
-            self.len(),
+            self.numbers(),
             region.h(),
             &self.points,
+            &self.live,
             &self.order,
             region.normals(),
             region.offsets(),
@@ -163,8 +241,9 @@ impl<'s> Shelf<'s> {
     /// # Ok::<(), hornherder::Refusal>(())
     /// ```
     ///
-    /// Refused are no region at all or more than [`MAX_REGIONS`], a buffer with too few places, and faces made
-    /// for another dimension. One region with a fault refuses all, and the buffer is left alone.
+    /// Refused are no region at all or more than [`MAX_REGIONS`], a buffer with too few places, faces made for
+    /// another dimension, and an order that is no longer the tree. One region with a fault refuses all, and the
+    /// buffer is left alone.
     pub fn list_all<'l, 'r>(
         &self,
         regions: impl IntoIterator<Item = &'r Region>,
@@ -174,9 +253,10 @@ impl<'s> Shelf<'s> {
         let mut counts = [[0; 3]; MAX_REGIONS];
         done(raw::list_regions(
             self.k,
-            self.len(),
+            self.numbers(),
             joined.face_counts.len(),
             &self.points,
+            &self.live,
             &self.order,
             &joined.face_counts,
             &joined.normals,
@@ -209,14 +289,15 @@ impl<'s> Shelf<'s> {
     /// # Ok::<(), hornherder::Refusal>(())
     /// ```
     ///
-    /// Refused are faces made for another dimension. The order is checked first, as in
-    /// [`list`](Shelf::list).
+    /// Refused are faces made for another dimension, and an order that is no longer the tree, which is checked
+    /// first, as in [`list`](Shelf::list).
     pub fn screen(&self, region: &Region) -> Result<Screening, Refusal> {
         let answer = raw::screen(
             self.k,
-            self.len(),
+            self.numbers(),
             region.h(),
             &self.points,
+            &self.live,
             &self.order,
             region.normals(),
             region.offsets(),
@@ -250,15 +331,16 @@ impl<'s> Shelf<'s> {
     /// # Ok::<(), hornherder::Refusal>(())
     /// ```
     ///
-    /// Refused are faces made for another dimension, and a number that no point of the shelf has. The order
-    /// is checked first, as in [`list`](Shelf::list).
+    /// Refused are faces made for another dimension, an order that is no longer the tree, which is checked first,
+    /// as in [`list`](Shelf::list), and a number that no point of the shelf has.
     pub fn explain(&self, region: &Region, number: u32) -> Result<Reason, Refusal> {
         let answer = raw::explain(
             self.k,
-            self.len(),
+            self.numbers(),
             region.h(),
             number,
             &self.points,
+            &self.live,
             &self.order,
             region.normals(),
             region.offsets(),
@@ -267,6 +349,26 @@ impl<'s> Shelf<'s> {
         done(answer.code)?;
         Ok(Reason::new(answer))
     }
+}
+
+impl PartialEq for Shelf<'_> {
+    fn eq(&self, other: &Shelf<'_>) -> bool {
+        let same = |number| self.point(number) == other.point(number);
+        self.k == other.k
+            && self.live == other.live
+            && self.order() == other.order()
+            && (0..self.numbers() as u32).all(same)
+    }
+}
+
+impl Eq for Shelf<'_> {}
+
+/// What stands in a place of an order that no number has been written to.
+pub(crate) const NO_NUMBER: u32 = u32::MAX;
+
+/// The live bytes of so many numbers that are all live.
+fn all_live(n: usize) -> Vec<u8> {
+    vec![raw::LIVE; n]
 }
 
 /// How many points these coordinates make. Where they do not come out even, or k is 0, the library refuses.

@@ -58,6 +58,8 @@ fn same_constants() {
         ("MAX_OFFSET", hornherder::MAX_OFFSET),
         ("MIN_MARGIN", -hornherder::MAX_MARGIN),
         ("MAX_MARGIN", hornherder::MAX_MARGIN),
+        ("DEAD", i64::from(raw::DEAD)),
+        ("LIVE", i64::from(raw::LIVE)),
         ("CLOSED_FACE", i64::from(raw::CLOSED_FACE)),
         ("OPEN_FACE", i64::from(raw::OPEN_FACE)),
         ("INSIDE_WITH_BRANCH", i64::from(raw::INSIDE_WITH_BRANCH)),
@@ -77,7 +79,8 @@ fn same_constants() {
     assert!(header.is_empty(), "only in the header: {header:?}");
 }
 
-/// Every answer has 16 bytes, or 8 where a point is made, and its numbers where the C tests of reasons, margins and readings ask for them.
+/// Every answer has 16 bytes, or 8 where a point is made or taken, and its numbers where the C tests of reasons, margins, readings and live
+/// bytes ask for them.
 #[test]
 fn same_layout() {
     assert_eq!(size_of::<raw::Listing>(), 16);
@@ -94,6 +97,8 @@ fn same_layout() {
     assert_eq!(offset_of!(raw::Placing, margin), 8);
     assert_eq!(size_of::<raw::Making>(), 8);
     assert_eq!(offset_of!(raw::Making, made), 4);
+    assert_eq!(size_of::<raw::Taking>(), 8);
+    assert_eq!(offset_of!(raw::Taking, number), 4);
 }
 
 /// The crate's version starts with the header's, which is the library's.

@@ -8,11 +8,11 @@ fn examples(page: &str) -> Vec<&str> {
         .collect()
 }
 
-/// Both pages have the same three examples.
+/// Both pages have the same four examples.
 #[test]
 fn same_examples() {
     let own = examples(include_str!("../README.md"));
     let repository = examples(include_str!("../../../README.md"));
-    assert_eq!(own.len(), 3);
+    assert_eq!(own.len(), 4);
     assert_eq!(own, repository);
 }

@@ -187,22 +187,22 @@ fn by_list() {
 /// A wrong order comes before a number that no point has, and a bad mark before both.
 #[test]
 fn tested_last() {
-    let (points, wrong, right) = ([0, 10], [1, 0, 7], [0, 1, 7]);
+    let (points, live, wrong, right) = ([0, 10], [1, 1], [1, 0, 7], [0, 1, 7]);
     for (order, number, mark, code) in [
         (wrong, 2, 2, 11),
         (wrong, 2, 0, 9),
-        (right, 2, 0, 13),
-        (right, u32::MAX, 0, 13),
+        (right, 2, 0, 17),
+        (right, u32::MAX, 0, 17),
         (wrong, 1, 0, 9),
     ] {
-        let answer = raw::explain(1, 2, 1, number, &points, &order, &[1], &[5], &[mark]);
+        let answer = raw::explain(1, 2, 1, number, &points, &live, &order, &[1], &[5], &[mark]);
         let refused = raw::Explaining {
             code,
             ..raw::Explaining::default()
         };
         assert_eq!(answer, refused);
     }
-    let done = raw::explain(1, 2, 1, 1, &points, &right, &[1], &[5], &[0]);
+    let done = raw::explain(1, 2, 1, 1, &points, &live, &right, &[1], &[5], &[0]);
     let inside = raw::Explaining {
         reason: raw::INSIDE_BY_ITSELF,
         slot: 1,

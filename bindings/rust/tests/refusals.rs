@@ -71,7 +71,7 @@ fn of_marks() {
 /// 8 is tested before 11, and 11 before 9, in each call that has them.
 #[test]
 fn marks_in_order() {
-    let (points, wrong_order, right_order) = ([0, 10], [1, 0], [0, 1]);
+    let (points, live, wrong_order, right_order) = ([0, 10], [1, 1], [1, 0], [0, 1]);
     for (component, mark, order, code) in [
         (-32_768, 2, wrong_order, 8),
         (1, 2, wrong_order, 11),
@@ -80,8 +80,9 @@ fn marks_in_order() {
     ] {
         let (normals, marks) = ([component], [mark]);
         let mut list = [70, 71];
-        let listing = raw::list(1, 2, 1, &points, &order, &normals, &[0], &marks, &mut list);
-        let screening = raw::screen(1, 2, 1, &points, &order, &normals, &[0], &marks);
+        #[rustfmt::skip]
+        let listing = raw::list(1, 2, 1, &points, &live, &order, &normals, &[0], &marks, &mut list);
+        let screening = raw::screen(1, 2, 1, &points, &live, &order, &normals, &[0], &marks);
         assert_eq!((listing.code, screening.code), (code, code));
         let placing = raw::place(1, 1, &[5], &normals, &[0], &marks);
         if code == 8 || code == 11 {
@@ -169,20 +170,20 @@ fn of_screen() {
     assert_eq!(other, Err(Refusal::FacesLength));
 }
 
-/// Explaining meets 7, and 13 for a number that no point has.
+/// Explaining meets 7, and 17 for a number that no point has.
 #[test]
 fn of_explain() {
     let shelf = Shelf::build(2, vec![1, 2, 3, 4]).unwrap();
     let everywhere = Region::everywhere(2).unwrap();
     for number in [2, 3, 65_536, u32::MAX] {
         let refused = shelf.explain(&everywhere, number);
-        assert_eq!(refused, Err(Refusal::NoSuchNumber));
+        assert_eq!(refused, Err(Refusal::NotLive));
         let other = shelf.explain(&faces(1).unwrap(), number);
         assert_eq!(other, Err(Refusal::FacesLength));
     }
     assert!(shelf.explain(&everywhere, 1).is_ok());
     let empty = Shelf::build(2, vec![]).unwrap();
-    assert_eq!(empty.explain(&everywhere, 0), Err(Refusal::NoSuchNumber));
+    assert_eq!(empty.explain(&everywhere, 0), Err(Refusal::NotLive));
 }
 
 /// A row of the README's table: its number, when it is given, and the likely cause.
@@ -212,6 +213,7 @@ fn numbers_and_sentences() {
     }
     assert_eq!(Refusal::from_number(0), None);
     assert_eq!(Refusal::from_number(10), None);
+    assert_eq!(Refusal::from_number(13), None); // an earlier version's, not given out again
 }
 
 /// What is no refusal of the library's has a sentence too.

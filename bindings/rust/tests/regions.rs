@@ -68,7 +68,7 @@ fn no_points() {
 /// 14 is tested before 4, 6 of each region before the counts are added up, 11 before 9; and a refused call writes nothing.
 #[test]
 fn in_order() {
-    let (points, wrong, right) = ([0, 10], [1, 0], [0, 1]);
+    let (points, live, wrong, right) = ([0, 10], [1, 1], [1, 0], [0, 1]);
     let most = u32::MAX;
     for (regions, face_counts, places, mark, order, code) in [
         (0, &[][..], 0, 2, wrong, 14),
@@ -89,6 +89,7 @@ fn in_order() {
             2,
             regions,
             &points,
+            &live,
             &order,
             face_counts,
             &[1],

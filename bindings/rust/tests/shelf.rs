@@ -185,7 +185,7 @@ fn many_threads() {
     let work = || {
         let mut buffer = vec![0; shelf.len()];
         let listing = shelf.list(&region, &mut buffer).unwrap();
-        assert_eq!(raw::check(3, 1000, &points, shelf.order()), 0);
+        assert_eq!(raw::check(3, 1000, &points, shelf.live(), shelf.order()), 0);
         assert_eq!(
             shelf.screen(&region).unwrap().found(),
             listing.inside().first().copied()

@@ -20,7 +20,8 @@ use Rattle.theory.specs.Counting.{Same, same-refl, same-trans, same-front, same
 use Rattle.theory.specs.Flags.{true-and}
 use Rattle.theory.specs.Tested.{TestedPoints}
 use Rattle.theory.specs.RisingNumbers.{members-belong, members-few}
-use Rattle.theory.specs.EachNumberOnce.{members-each, each-distinct, stock-under}
+use Rattle.theory.specs.EachNumberOnce.{members-each, each-distinct}
+use Rattle.theory.specs.StockNumbers.{stock-under}
 use Rattle.theory.specs.RunParts.{Parts, of-parts}
 use Rattle.theory.specs.TreeFuel.{tree-fuel}
 use Rattle.theory.specs.TreeDepth.{tree-depth, next-depth}

@@ -1,6 +1,6 @@
 -- The checker on the lent points: what its functions answer, and the answer from the root. The root's bounds leave every key in,
 -- so there it is asked that all numbers belong and that the order is a tree, which is the tree where there are as many slots as numbers.
-use mathlib.Core.Path.{_≡_, refl, sym, ap, _∙_}
+use mathlib.Core.Path.{_≡_, refl, sym, ap, subst, _∙_}
 use mathlib.Core.Bool.{Bool, true, false, _&&_, _||_, not}
 use mathlib.Core.List.{List, [], _∷_}
 use Prim.Native.Nat.{ℕ, suc, _+_, _≤_, _<_}
@@ -9,16 +9,18 @@ use lib.ListN.{length, getD, take, drop, set, replicate, length-drop, getD-repli
 use lib.Seq.{getD-drop}
 use lib.IntN.{ℤ}
 use lib.Dec.{ltb}
+use borrow.Author.Tests.{lt-ltb}
 use Rattle.terms.specs.Tests.{every}
-use Rattle.terms.specs.Lent.{stock}
-use Rattle.terms.specs.Points.{coord, below}
+use Rattle.terms.specs.Lent.{Stock}
+use Rattle.terms.specs.Live.{isLive, liveCount}
+use Rattle.terms.specs.Points.{coord, below, pointOf, belongsTo, slotsOf}
 use Rattle.terms.specs.Run.{middle, axis, node, lefts, rights}
-use Rattle.terms.specs.Tree.{treeRun, isTree}
-use Rattle.theory.specs.Flags.{same-test, and-true, true-and}
+use Rattle.terms.specs.Tree.{treeRun, eachOnce, isTree}
+use Rattle.theory.specs.Flags.{clash, same-test, and-true, true-and, or-yes}
 use Rattle.theory.specs.Counting.{every-at, at-every, every-same, every-part}
 use Rattle.theory.specs.Tested.{TestedPoints}
-use Rattle.theory.specs.RisingNumbers.{length-rising, members-shelf}
-use Rattle.theory.specs.EachNumberOnce.{below-under}
+use Rattle.theory.specs.LiveNumbers.{full-live}
+use Rattle.theory.specs.StockNumbers.{stock-under, stock-members}
 use Rattle.theory.specs.TreeIsDistinct.{tree-test}
 use Rattle.arrange.specs.Key.{keyOf, Keyed, stock-keyed, key-small, key-number, before-key}
 use Rattle.arrange.specs.Allowed.{isAllowed, allThree, each-of-three, allowed, of-allowed, Ordered}
@@ -51,19 +53,34 @@ pub record Descends (k m : ℕ) (points : List ℤ) (s : ℕ) (least end run : L
   pub least-size : k ≤ length least
   pub end-size : k ≤ length end
 
--- Of m numbers that were tested every run is known.
-pub stock-known : {k m : ℕ} {points : List ℤ} → TestedPoints (stock k m points) → (run : List ℕ) → RunKnown k m points run
-stock-known {m = m} tested run = record {
-  some = tested .some;
-  few = tested .few;
-  belongs = below m;
-  has-key = stock-keyed tested;
-  numbers = at-every _ 0 run (λ i l. either (below m (getD run i 0)));
-}
+-- What is answered of the slots before the descent: yes where every number below n is live, and no where some number is not.
+pub record NoneDead (n : ℕ) (live run : List ℕ) (answer : Bool) : Type 0 where
+  pub yes : answer ≡ true → every (λ p. not (below n p) || isLive n live p) run ≡ true
+  pub no : answer ≡ false → every (isLive n live) run ≡ false
+
+-- Where v is n, every number below n is live, whatever the run.
+pub all-none-dead : (n : ℕ) (live run : List ℕ) → liveCount n live ≡ n → NoneDead n live run true
+all-none-dead n live run full = record { yes = λ e. subst known (sym (full-live n live full)) (at-every _ 0 run (λ i l. either (below n (getD run i 0)))); no = λ e. clash refl e }
   where
+    known : (ℕ → Bool) → Type 0
+    known belongs = every (λ p. not (below n p) || belongs p) run ≡ true
+
     either : (t : Bool) → not t || t ≡ true
     either true = refl
     either false = refl
+
+-- Where every number of the run is live, that is so too.
+pub live-none-dead : (n : ℕ) (live run : List ℕ) → NoneDead n live run (every (isLive n live) run)
+live-none-dead n live run = record {
+  yes = λ e. at-every _ 0 run (λ i l. or-yes (not (below n (getD run i 0))) (every-at (isLive n live) 0 run e i l));
+  no = λ e. e;
+}
+
+-- A run of a tested stock whose numbers below n are live is known.
+abbrev pub stock-known : {s : Stock} → TestedPoints s → (run : List ℕ) → every (λ p. not (below (s .n) p) || belongsTo s p) run ≡ true
+    → RunKnown (s .k) (s .n) (s .points) run
+stock-known {s} tested run numbers =
+    record { some = tested .some; few = tested .few; belongs = belongsTo s; has-key = stock-keyed tested; numbers = numbers }
 
 module _ {k m : ℕ} {points : List ℤ} {run : List ℕ} (w : RunKnown k m points run) where
   -- Other numbers of the run are known too: some from its front, from its back, one, and three.
@@ -140,12 +157,27 @@ module _ {k m : ℕ} {points : List ℤ} {run : List ℕ} (w : RunKnown k m poin
       ap (λ (t : Bool). t && treeRun (length run) k (coord k points) 0 run)
       (every-same 0 (numberAllowed k m points (replicate 4 0) (replicate 4 4294967295)) (below m) run root-allowed)
 
--- Of m tested numbers and as many slots that is whether the order is the tree of the m numbers.
-pub root-answer : {k m : ℕ} {points : List ℤ} → TestedPoints (stock k m points) → (order : List ℕ) → length order ≡ m
-    → branchAllowed k m points (replicate 4 0) (replicate 4 4294967295) 0 order ≡ isTree k (coord k points) (below m) m order
-root-answer {k} {m} {points} tested order size =
-    root-branch (stock-known tested order)
-    ∙ sym (tree-test k (coord k points) (below m) m order (below-under m) (size ∙ sym (ap length (members-shelf m) ∙ length-rising 0 m)))
+-- Of as many slots as live numbers that is whether the order is the tree of the stock.
+pub root-answer : {s : Stock} → TestedPoints s → (order : List ℕ) → length order ≡ slotsOf s
+    → every (λ p. not (below (s .n) p) || belongsTo s p) order ≡ true
+    → branchAllowed (s .k) (s .n) (s .points) (replicate 4 0) (replicate 4 4294967295) 0 order ≡ isTree (s .k) (pointOf s) (belongsTo s) (s .n) order
+root-answer {s} tested order size numbers =
+    root-branch known
+    ∙ ap (λ (t : Bool). t && treeRun (length order) (s .k) (pointOf s) 0 order) (every-same 0 (below (s .n)) (belongsTo s) order below-belongs)
+    ∙ sym (tree-test (s .k) (pointOf s) (belongsTo s) (s .n) order (stock-under s) (size ∙ sym (stock-members s)))
+  where
+    known : RunKnown (s .k) (s .n) (s .points) order
+    known = stock-known tested order numbers
+
+    below-belongs : (i : ℕ) → i < length order → below (s .n) (getD order i 0) ≡ belongsTo s (getD order i 0)
+    below-belongs i l = same-test
+        (λ e. and-true (below (s .n) (getD order i 0)) (member-at known i l ∙ e) .1)
+        (λ e. lt-ltb (getD order i 0) (s .n) (stock-under s (getD order i 0) e))
+
+-- A run with a number that does not belong is not the tree.
+pub dead-no-tree : (s : Stock) (order : List ℕ) → every (belongsTo s) order ≡ false → isTree (s .k) (pointOf s) (belongsTo s) (s .n) order ≡ false
+unfolding isTree eachOnce
+dead-no-tree s order e = rw e refl
 
 -- Within the descent.
 module _ {k m : ℕ} {points : List ℤ} {s : ℕ} {least end run : List ℕ} (w : Descends k m points s least end run) where

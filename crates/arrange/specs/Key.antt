@@ -19,7 +19,7 @@ use Rattle.terms.specs.Lent.{Stock}
 use Rattle.terms.specs.Points.{coord, belongsTo}
 use Rattle.terms.specs.Before.{before}
 use Rattle.theory.specs.Flags.{same-test}
-use Rattle.theory.specs.EachNumberOnce.{stock-under}
+use Rattle.theory.specs.StockNumbers.{stock-under}
 use Rattle.theory.specs.Tested.{Between, TestedPoints, coordinate-place}
 
 -- A coordinate lifted above 0.

@@ -5,6 +5,7 @@ ghost use Prim.Native.Nat.{_<_, _≤_};
 ghost use lib.ListN.{length};
 ghost use Rattle.terms.specs.Lent.{stock};
 ghost use Rattle.terms.specs.Points.{coord, below};
+ghost use Rattle.terms.specs.Live.{isLive, liveCount};
 ghost use Rattle.terms.specs.Tree.{members, isTree};
 ghost use Rattle.theory.specs.Tested.{TestedPoints};
 ghost use Rattle.arrange.specs.Placed.{Placed};
@@ -13,6 +14,7 @@ use crate::belongs::belongs;
 use crate::choose::choose;
 use crate::key::write_keys;
 use crate::key::write_numbers;
+use crate::live::fill_live;
 use terms::axis::next_axis;
 
 // Puts the number that belongs at the place m of the run there, by the keys on dimension s.
@@ -63,12 +65,26 @@ fn fill(m: usize, order: &mut [u32])
     }
 }
 
-// Builds the tree of the m points in the lent order, which has a slot for each.
-pub fn build(k: usize, m: usize, points: &[i32], order: &mut [u32])
-    requires { ⌜ TestedPoints (stock k m (now points)) ⌝ }
-    requires { ⌜ length (now order) ≡ m ⌝ }
-    ensures { λ _. ⌜ isTree k (coord k (now (points .entry))) (below m) m (now (order .exit)) ≡ true ⌝ }
+// Fills the order with the numbers that belong, rising: all n where the order has a slot for each, else by their live bytes.
+fn fill_order(n: usize, live: &[u8], order: &mut [u32])
+    requires { ⌜ n ≤ 65535 ⌝ }
+    requires { ⌜ length (now live) ≡ n ⌝ }
+    requires { ⌜ length (now order) ≡ liveCount n (now live) ⌝ }
+    ensures { λ _. ⌜ now (order .exit) ≡ members (isLive n (now (live .entry))) n ⌝ }
 {
-    fill(m, order);
+    if order.len() == n {
+        fill(n, order);
+        return;
+    }
+    fill_live(n, live, order);
+}
+
+// Builds the tree of the live ones of n points in the lent order, which has a slot for each.
+pub fn build(k: usize, n: usize, points: &[i32], live: &[u8], order: &mut [u32])
+    requires { ⌜ TestedPoints (stock k n (now points) (now live)) ⌝ }
+    requires { ⌜ length (now order) ≡ liveCount n (now live) ⌝ }
+    ensures { λ _. ⌜ isTree k (coord k (now (points .entry))) (isLive n (now (live .entry))) n (now (order .exit)) ≡ true ⌝ }
+{
+    fill_order(n, live, order);
     arrange(k, points, 0, order);
 }

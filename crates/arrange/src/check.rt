@@ -3,16 +3,18 @@
 // once; most slots of a shelf stand in such runs.
 use crate::belongs::belongs;
 use crate::key::key;
+use crate::live::all_live;
 use terms::axis::next_axis;
 ghost use mathlib.Core.Path.{_≡_};
 ghost use mathlib.Core.List.{[], _∷_};
 ghost use Prim.Native.Nat.{_<_};
 ghost use lib.ListN.{length};
 ghost use Rattle.terms.specs.Lent.{stock};
-ghost use Rattle.terms.specs.Points.{coord, below};
+ghost use Rattle.terms.specs.Points.{coord};
+ghost use Rattle.terms.specs.Live.{isLive, liveCount};
 ghost use Rattle.terms.specs.Tree.{isTree};
 ghost use Rattle.theory.specs.Tested.{TestedPoints};
-ghost use Rattle.arrange.specs.Checked.{RunKnown, Descends, numberAllowed, threeAllowed, branchAllowed};
+ghost use Rattle.arrange.specs.Checked.{RunKnown, NoneDead, Descends, numberAllowed, threeAllowed, branchAllowed};
 
 // Whether numbers p, q and r belong, each with its key on every dimension at least the least there and below the end.
 // The turns are four at most, a constant, so that a compiler can lay them out one after another.
@@ -167,16 +169,32 @@ fn node(
     branch(k, m, points, &order[r..], n, right_least, end)
 }
 
-// Whether the order is the tree of the m numbers: the descent from the root, where every key is allowed.
-pub fn check(k: usize, m: usize, points: &[i32], order: &[u32]) -> bool
-    requires { ⌜ TestedPoints (stock k m (now points)) ⌝ }
-    requires { ⌜ length (now order) ≡ m ⌝ }
-    ensures { λ r. ⌜ r ≡ isTree k (coord k (now (points .entry))) (below m) m (now (order .entry)) ⌝ }
+// Whether no slot holds a dead number. Where each of the n numbers has a slot none is dead, and nothing is read.
+fn none_dead(n: usize, live: &[u8], order: &[u32]) -> bool
+    requires { ⌜ length (now live) ≡ n ⌝ }
+    requires { ⌜ length (now order) ≡ liveCount n (now live) ⌝ }
+    ensures { λ r. ⌜ NoneDead n (now (live .entry)) (now (order .entry)) r ⌝ }
 {
+    if order.len() == n {
+        return true;
+    }
+    all_live(n, live, order)
+}
+
+// Whether the order, which has a slot for each live number of n, is their tree: the descent from the root, where every key is allowed. Where some number
+// is dead the slots are gone through first, so that no key of a dead number is formed.
+pub fn check(k: usize, n: usize, points: &[i32], live: &[u8], order: &[u32]) -> bool
+    requires { ⌜ TestedPoints (stock k n (now points) (now live)) ⌝ }
+    requires { ⌜ length (now order) ≡ liveCount n (now live) ⌝ }
+    ensures { λ r. ⌜ r ≡ isTree k (coord k (now (points .entry))) (isLive n (now (live .entry))) n (now (order .entry)) ⌝ }
+{
+    if !none_dead(n, live, order) {
+        return false;
+    }
     if order.len() == 0 {
         return true;
     }
     let least = [0; 4];
     let end = [4294967295; 4];
-    node(k, m, points, order, 0, least, end)
+    node(k, n, points, order, 0, least, end)
 }

@@ -6,6 +6,6 @@ pub mod Boxed
 pub mod Faced
 pub mod Runs
 pub mod SlotsBox
-pub mod RootBox
+pub mod NumbersBox
 pub mod Root
 pub mod SettledSlots

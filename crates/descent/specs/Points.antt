@@ -10,7 +10,7 @@ use lib.IntN.{ℤ, pos}
 use Rattle.terms.specs.Lent.{Stock}
 use Rattle.terms.specs.Points.{lone, coord, belongsTo}
 use Rattle.terms.specs.Region.{Region}
-use Rattle.theory.specs.EachNumberOnce.{stock-under}
+use Rattle.theory.specs.StockNumbers.{stock-under}
 use Rattle.theory.specs.Tested.{Coordinates, TestedPoints}
 use Rattle.theory.specs.PointsAlike.{SamePoint, same-point-sym, in-same-point, inside-same-point}
 use Rattle.region.specs.Live.{InsideByLive}

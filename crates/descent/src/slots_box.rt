@@ -1,6 +1,6 @@
 // The root box over the slots, for a shelf on which some numbers are dead: their coordinates may be any, and stand in no slot.
+use crate::numbers_box::choose;
 use crate::points::point_at;
-use crate::root::choose;
 use terms::CornerRows;
 ghost use Prim.Native.Nat.{_≤_};
 ghost use Rattle.terms.specs.Box.{boxOf};

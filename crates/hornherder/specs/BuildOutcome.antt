@@ -12,7 +12,7 @@ use Rattle.terms.specs.Points.{pointOf, belongsTo, slotsOf}
 use Rattle.terms.specs.Tree.{eachOnce, isTree}
 use Rattle.terms.specs.BuildCall.{buildRefusals, buildAnswer, Built}
 use Rattle.theory.specs.Flags.{and-true}
-use Rattle.theory.specs.EachNumberOnce.{stock-slots}
+use Rattle.theory.specs.StockNumbers.{stock-slots}
 use Rattle.theory.specs.BuildCall.{BuildPassed, build-passed}
 use Rattle.hornherder.specs.First.{First}
 
@@ -21,7 +21,7 @@ module _ (s : Stock) (o : Order) {c : ℕ} (f : First (buildRefusals s o) c) whe
   unfolding buildAnswer
   build-coded = f .is
 
-  -- What 1 to 5 have tested.
+  -- What 1, 2, 3, 15, 4 and 5 have tested.
   pub build-tested : c ≡ 0 → BuildPassed s o
   build-tested z = build-passed s o (sym build-coded ∙ z)
 

@@ -1,4 +1,4 @@
--- What the check call gives, put together: a refusal of 1 to 5, or what the test of the tree gives.
+-- What the check call gives, put together: a refusal of 1, 2, 3, 15, 4 and 5, or what the test of the tree gives.
 use mathlib.Core.Path.{_≡_, refl}
 use mathlib.Core.Logic.{_≢_}
 use Prim.Native.Nat.{ℕ}

@@ -14,6 +14,7 @@ use Rattle.terms.specs.Region.{region}
 use Rattle.terms.specs.Explain.{reasonOf}
 use Rattle.terms.specs.ExplainCall.{explainRefusals, explaining, explainCode, explainAnswer}
 use Rattle.theory.specs.FirstRefusal.{if-refused}
+use Rattle.theory.specs.StockNumbers.{stock-few}
 use Rattle.theory.specs.Reasons.{Named, named-more, tree-run, because-named}
 use Rattle.theory.specs.ExplainCall.{ExplainPassed, explain-passed, picture-reason}
 use Rattle.hornherder.specs.First.{First}
@@ -23,7 +24,7 @@ module _ (s : Stock) (o : Order) (f : Faces) (p : ℕ) {c : ℕ} (first : First 
   unfolding explainCode
   explain-coded = first .is
 
-  -- What 1 to 8, 11, 9 and 13 have tested.
+  -- What 1, 2, 3, 15, 4 to 8, 11, 9 and 17 have tested.
   pub explain-tested : c ≡ 0 → ExplainPassed s o f p
   explain-tested z = explain-passed s o f p (sym explain-coded ∙ z)
 
@@ -39,7 +40,7 @@ module _ (s : Stock) (o : Order) (f : Faces) (p : ℕ) {c : ℕ} (first : First 
         let t = w .screened in
         let r = picture-reason s o f p w in
         let slots = length-take-le (slotsOf s) (o .slots) (t .room) in
-        named-more (omega (arith, slots, t .tested .many)) (omega (arith, t .faced .many)) (reasonOf (region (s .k) f) (pointOf s) (shelfRun s o) p)
+        named-more (omega (arith, slots, stock-few s, t .tested .many)) (omega (arith, t .faced .many)) (reasonOf (region (s .k) f) (pointOf s) (shelfRun s o) p)
         (because-named (region (s .k) f) (pointOf s) (shelfRun s o)
         (tree-run (region (s .k) f) (pointOf s) (belongsTo s) (s .n) (shelfRun s o) (t .shelf)) (r .stands) (reasonOf (region (s .k) f) (pointOf s) (shelfRun s o) p) (r .because))
 

@@ -28,7 +28,7 @@ use Rattle.terms.specs.ListCall.{listCode, ListedAs}
 use Rattle.terms.specs.ExplainCall.{explainRefusals, explaining, explainCode, explainAnswer}
 use Rattle.theory.specs.Flags.{clash, not-true}
 use Rattle.theory.specs.FirstRefusal.{FirstHeld, if-code, if-refused}
-use Rattle.theory.specs.EachNumberOnce.{stock-under}
+use Rattle.theory.specs.StockNumbers.{stock-under}
 use Rattle.theory.specs.ListCall.{listed-code, list-inside}
 use Rattle.theory.specs.Margins.{aboveBy, above-by-margin}
 use Rattle.theory.specs.Reasons.{saysInside, Named, SaidOf, tree-run, reason-because, because-named, because-below, because-inside, because-visited}
@@ -98,8 +98,8 @@ module _ (s : Stock) (o : Order) (f : Faces) (p : ℕ) {b : Explaining} (e : b �
       e ∙ if-refused (explainCode s o f p) _ _ n ∙ rw (← explain-number) refl
 
   -- Places from n on are not read.
-  pub explain-reads-n-slots : (q : Order) → shelfRun s o ≡ shelfRun s q → {c : Explaining} → c ≡ explainAnswer s q f p → b ≡ c
-  explain-reads-n-slots q same g = e ∙ explain-reads s o q f p same ∙ sym g
+  pub explain-reads-v-slots : (q : Order) → shelfRun s o ≡ shelfRun s q → {c : Explaining} → c ≡ explainAnswer s q f p → b ≡ c
+  explain-reads-v-slots q same g = e ∙ explain-reads s o q f p same ∙ sym g
 
   module _ (done : b .code ≡ 0) where
     abbrev g : Region
@@ -182,10 +182,10 @@ module _ (s : Stock) (o : Order) (f : Faces) (p : ℕ) {b : Explaining} (e : b �
     pub explain-code-is-the-list-call-s : belongsTo s p ≡ true → b .code ≡ a .code
     explain-code-is-the-list-call-s belongs = explain-number ∙ explain-code-is-list-code s o f p belongs list room ∙ sym (listed-code s o f list l)
 
-    -- Of a number that is no picture of the shelf, 13 where the list call is done, and else its number.
-    pub explain-code-of-other-numbers : belongsTo s p ≡ false → b .code ≡ ifDone (a .code) 13 (a .code)
+    -- Of a number that is no picture of the shelf, 17 where the list call is done, and else its number.
+    pub explain-code-of-other-numbers : belongsTo s p ≡ false → b .code ≡ ifDone (a .code) 17 (a .code)
     explain-code-of-other-numbers none =
-        explain-number ∙ explain-code-otherwise s o f p none list room ∙ ap (λ (c : ℕ). ifDone c 13 c) (sym (listed-code s o f list l))
+        explain-number ∙ explain-code-otherwise s o f p none list room ∙ ap (λ (c : ℕ). ifDone c 17 c) (sym (listed-code s o f list l))
 
     -- The reason is 1 or 2 exactly where the list call lists the picture inside: once where it does, and else never.
     pub explained-inside-where-listed : b .code ≡ 0 → count (eqb p) (take (a .inside) x) ≡ bit (insideNumber (b .reason))

@@ -38,3 +38,20 @@ first-passed {xs} n f z = first-held xs n .done (sym (f .is) ∙ z)
 -- A first group that was passed leaves the number to the others.
 pub first-goes-on : {xs ys : List Refusal} {c d : ℕ} → noZero xs ≡ true → First xs c → c ≡ 0 → First ys d → First (xs ++ ys) d
 first-goes-on {xs} {ys} n f z g = record { is = g .is ∙ sym (first-skip xs ys (first-passed n f z)) }
+
+-- What tests with the live bytes among them find: the first refusal or 0, and beside 0 how many slots the shelf has.
+pub record Found (rs : List Refusal) (v code slots : ℕ) : Type 0 where
+  pub first : First rs code
+  pub many : code ≡ 0 → slots ≡ v
+
+-- A refusal tells nothing of the slots.
+pub found-refused : {rs : List Refusal} {v c slots : ℕ} → First rs c → c ≢ 0 → Found rs v c slots
+found-refused f m = record { first = f; many = λ z. absurd (m z) }
+
+-- A first group that gives a refusal gives it for the whole,
+pub found-stops : {xs : List Refusal} {v c slots : ℕ} (ys : List Refusal) → Found xs v c slots → c ≢ 0 → Found (xs ++ ys) v c slots
+found-stops ys f m = found-refused (first-stops ys (f .first) m) m
+
+-- and one that was passed leaves the number to the others, and tells the slots.
+pub found-goes-on : {xs ys : List Refusal} {v c d slots : ℕ} → noZero xs ≡ true → Found xs v c slots → c ≡ 0 → First ys d → Found (xs ++ ys) v d slots
+found-goes-on n f z g = record { first = first-goes-on n (f .first) z g; many = λ e. f .many z }

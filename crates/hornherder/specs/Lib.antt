@@ -22,4 +22,5 @@ pub mod TakePromises
 pub mod WithdrawOutcome
 pub mod WithdrawPromises
 pub mod ChangesPromises
+pub mod DeadPromises
 pub mod BinPromises

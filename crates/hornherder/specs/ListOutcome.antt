@@ -19,7 +19,7 @@ module _ (s : Stock) (o : Order) (f : Faces) (list : List ℕ) {c : ℕ} (first 
   unfolding listCode
   list-coded = first .is
 
-  -- What 1 to 8, 11 and 9 have tested.
+  -- What 1, 2, 3, 15, 4 to 8, 11 and 9 have tested.
   pub list-tested : c ≡ 0 → ListPassed s o f list
   list-tested z = list-passed s o f list (sym list-coded ∙ z)
 

@@ -54,10 +54,10 @@ module _ (s : Stock) (o : Order) (f : Faces) (list : List ℕ) where
       passed : listCode s o f list ≡ 0
       passed = sym code ∙ done
 
-      -- Inside plus outside is n.
-      pub list-counts-n : a .inside + a .outside ≡ slotsOf s
+      -- Inside plus outside is v.
+      pub list-counts-v : a .inside + a .outside ≡ slotsOf s
       unfolding listAnswer
-      list-counts-n =
+      list-counts-v =
           rw (e .answered, passed)
           (shelf-lists-length s o (list-passed s o f list passed .shelf) (region (s .k) f))
 
@@ -67,7 +67,7 @@ module _ (s : Stock) (o : Order) (f : Faces) (list : List ℕ) where
           rw (e .written, list-front s o f list passed)
           (shelf-places-each s o (list-passed s o f list passed .shelf) (region (s .k) f))
 
-      -- Places from n on are not written.
+      -- Places from v on are not written.
       pub list-keeps-later-places : drop (slotsOf s) x ≡ drop (slotsOf s) list
       list-keeps-later-places = rw (e .written) (list-later s o f list passed)
 
@@ -76,15 +76,15 @@ module _ (s : Stock) (o : Order) (f : Faces) (list : List ℕ) where
         : a .visits ≤ totalTo (f .h) (λ i. listAnswer s o (faceAlone (s .k) f i) list .visits)
     visits-at-most-the-faces = rw (e .answered) (list-visits-le-faces s o f list)
 
-    -- "Where all faces are square, visits are at most h times S(n, k)", whatever the marks: "the bound on square faces must be shown to hold still".
+    -- "Where all faces are square, visits are at most h times S(v, k)", whatever the marks: "the bound on square faces must be shown to hold still".
     pub visits-at-most-hS : ((i : ℕ) → i < f .h → isSquare (region (s .k) f) i ≡ true) → a .visits ≤ f .h * S (slotsOf s) (s .k)
     visits-at-most-hS squares = rw (e .answered) (list-visits-le-S s o f list squares)
 
-    -- Neither the order's places from n on nor what the buffer held before is read: only whether it has n places, and what it keeps.
+    -- Neither the order's places from v on nor what the buffer held before is read: only whether it has v places, and what it keeps.
     module _ (q : Order) (buffer : List ℕ) (slots : shelfRun s o ≡ shelfRun s q) (rooms : ltb (length list) (slotsOf s) ≡ ltb (length buffer) (slotsOf s))
         {b : Listing} {y : List ℕ} (g : ListedAs s q f buffer b y) where
-      pub list-reads-n-slots : a ≡ b
-      list-reads-n-slots = e .answered ∙ list-answer-reads s o q f list buffer slots rooms ∙ sym (g .answered)
+      pub list-reads-v-slots : a ≡ b
+      list-reads-v-slots = e .answered ∙ list-answer-reads s o q f list buffer slots rooms ∙ sym (g .answered)
 
       pub list-leaves-the-same : drop (slotsOf s) list ≡ drop (slotsOf s) buffer → a .code ≡ 0 → x ≡ y
       list-leaves-the-same later done =

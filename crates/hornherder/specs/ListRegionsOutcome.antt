@@ -18,7 +18,7 @@ module _ (s : Stock) (o : Order) (g : Regions) (lists counts : List ℕ) {c : �
   unfolding listRegionsCode
   regions-coded = first .is
 
-  -- What 1, 2, 3, 14, 4 to 8, 11 and 9 have tested.
+  -- What 1, 2, 3, 15, 14, 4 to 8, 11 and 9 have tested.
   pub regions-passed : c ≡ 0 → RegionsPassed s o g lists counts
   regions-passed z = list-regions-passed s o g lists counts (sym regions-coded ∙ z)
 

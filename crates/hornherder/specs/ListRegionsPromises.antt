@@ -35,7 +35,7 @@ use Rattle.theory.specs.ListRegionsCall.{
   region-lists,
   region-counts,
 }
-use Rattle.hornherder.specs.ListPromises.{list-counts-n, list-holds-each-once, visits-at-most-the-faces, visits-at-most-hS}
+use Rattle.hornherder.specs.ListPromises.{list-counts-v, list-holds-each-once, visits-at-most-the-faces, visits-at-most-hS}
 
 module _ (s : Stock) (o : Order) (g : Regions) (lists counts : List ℕ) {a : ℕ} {x y : List ℕ} (e : RegionsListedAs s o g lists counts a x y) where
   -- Two outcomes that satisfy the contract are equal.
@@ -52,13 +52,13 @@ module _ (s : Stock) (o : Order) (g : Regions) (lists counts : List ℕ) {a : �
       let w = list-regions-refused s o g lists counts (λ z. m (e .answered ∙ z)) in
       (e .listed ∙ w .0, e .counted ∙ w .1)
 
-  -- Neither the order's places from n on nor what the buffers held before is read: only whether they have room, and what they keep.
+  -- Neither the order's places from v on nor what the buffers held before is read: only whether they have room, and what they keep.
   module _ (q : Order) (listBuffer countsBuffer : List ℕ) (slots : shelfRun s o ≡ shelfRun s q)
       (list-rooms : ltb (length lists) (g .regionCount * slotsOf s) ≡ ltb (length listBuffer) (g .regionCount * slotsOf s))
       (count-rooms : ltb (length counts) (g .regionCount * 3) ≡ ltb (length countsBuffer) (g .regionCount * 3))
       {b : ℕ} {v w : List ℕ} (f : RegionsListedAs s q g listBuffer countsBuffer b v w) where
-    pub list-regions-reads-n-slots : a ≡ b
-    list-regions-reads-n-slots = e .answered ∙ list-regions-code-reads s o q g lists counts listBuffer countsBuffer slots list-rooms count-rooms ∙ sym (f .answered)
+    pub list-regions-reads-v-slots : a ≡ b
+    list-regions-reads-v-slots = e .answered ∙ list-regions-code-reads s o q g lists counts listBuffer countsBuffer slots list-rooms count-rooms ∙ sym (f .answered)
 
     pub list-regions-leaves-the-same-lists : drop (g .regionCount * slotsOf s) lists ≡ drop (g .regionCount * slotsOf s) listBuffer → a ≡ 0 → x ≡ v
     list-regions-leaves-the-same-lists later done =
@@ -99,7 +99,7 @@ module _ (s : Stock) (o : Order) (g : Regions) (lists counts : List ℕ) {a : �
         pub region-is-accepted : b .code ≡ 0
         region-is-accepted = listed-code s o f list single ∙ single-done
 
-        -- its first n places are the region's,
+        -- its first v places are the region's,
         pub region-places-are-the-list-call-s : placesOfRegion ≡ take (slotsOf s) z
         region-places-are-the-list-call-s = rw (e .listed, single .written) (region-lists s o g lists counts accepted r l list room)
 
@@ -134,7 +134,7 @@ module _ (s : Stock) (o : Order) (g : Regions) (lists counts : List ℕ) {a : �
 
       -- "Demands 2 and 3 hold of each": inside plus outside is n,
       pub region-counts-n : getD y (r * 3 + 0) 0 + getD y (r * 3 + 1) 0 ≡ slotsOf s
-      region-counts-n = omega (arith, count-at 0 (omega arith), count-at 1 (omega arith), list-counts-n s o f zeros alone alone-done)
+      region-counts-n = omega (arith, count-at 0 (omega arith), count-at 1 (omega arith), list-counts-v s o f zeros alone alone-done)
 
       -- the region's places hold each number once,
       pub region-holds-each-once : eachOnce (belongsTo s) (s .n) placesOfRegion ≡ true
@@ -145,7 +145,7 @@ module _ (s : Stock) (o : Order) (g : Regions) (lists counts : List ℕ) {a : �
           : getD y (r * 3 + 2) 0 ≤ totalTo (facesIn (g .faceCounts) r) (λ i. listAnswer s o (faceAlone (s .k) f i) zeros .visits)
       region-visits-at-most-the-faces = omega (arith, count-at 2 (omega arith), visits-at-most-the-faces s o f zeros alone)
 
-      -- and where all its faces are square they are at most h times S(n, k).
+      -- and where all its faces are square they are at most h times S(v, k).
       pub region-visits-at-most-hS : ((i : ℕ) → i < facesIn (g .faceCounts) r → isSquare (regionAt (s .k) g r) i ≡ true)
           → getD y (r * 3 + 2) 0 ≤ facesIn (g .faceCounts) r * S (slotsOf s) (s .k)
       region-visits-at-most-hS squares = omega (arith, count-at 2 (omega arith), visits-at-most-hS s o f zeros alone squares)

@@ -9,27 +9,24 @@ use lib.ListN.{length, getD, take, drop, length-take, length-drop}
 use lib.Seq.{getD-take, getD-drop, take-length}
 use lib.IntN.{ℤ, pos}
 use Rattle.terms.specs.Tests.{bit, count, every}
+use Rattle.terms.specs.Lent.{Stock}
 use Rattle.terms.specs.Points.{coord, isCoordinate}
 use Rattle.terms.specs.Live.{isLiveByte, isSet, liveCount}
 use Rattle.terms.specs.LivePoints.{pointInRange}
-use Rattle.terms.specs.Refusals.{liveRefusals}
+use Rattle.terms.specs.Refusals.{liveRefusals, shapeRefusals, stockRefusals}
 use Rattle.theory.specs.Flags.{same-test}
 use Rattle.theory.specs.Tested.{point-places}
 use Rattle.theory.specs.AllAndAny.{all-each, each-all}
 use Rattle.theory.specs.Counting.{every-at, at-every, count-next}
 use Rattle.theory.specs.LiveNumbers.{live-bytes}
+use Rattle.theory.specs.FirstRefusal.{Passed, passed-parts}
+use Rattle.theory.specs.RefusalsPassed.{shape-passed, live-passed}
 use Rattle.hornherder.specs.Ranges.{Through, through-all}
-use Rattle.hornherder.specs.First.{First}
 
 -- Whether each live byte is 0 or 1, and how many numbers are live.
 pub record Counted (n : ℕ) (live : List ℕ) (all : Bool) (many : ℕ) : Type 0 where
   pub all-bytes : all ≡ every isLiveByte live
   pub live-many : many ≡ liveCount n live
-
--- What the test of the live bytes finds: 15 or 0, and beside 0 how many numbers are live.
-pub record LiveFound (n : ℕ) (live : List ℕ) (code many : ℕ) : Type 0 where
-  pub first : First (liveRefusals n live) code
-  pub live-many : code ≡ 0 → many ≡ liveCount n live
 
 -- k coordinates are lent for each of the n numbers, and a live byte.
 pub record LivePoints (k n : ℕ) (points : List ℤ) (live : List ℕ) : Type 0 where
@@ -37,6 +34,13 @@ pub record LivePoints (k n : ℕ) (points : List ℤ) (live : List ℕ) : Type 0
   pub many : n ≤ 65535
   pub size : length points ≡ k * n
   pub bytes : length live ≡ n
+
+-- So it is with a stock whose 1, 2, 3 and 15 were passed.
+pub stock-lent : (s : Stock) → Passed (stockRefusals s) → LivePoints (s .k) (s .n) (s .points) (s .live)
+stock-lent s w =
+    let p = passed-parts (shapeRefusals (s .k) (s .n) (s .points)) (liveRefusals (s .n) (s .live)) w in
+    let shaped = shape-passed (s .k) (s .n) (s .points) (p .0) in
+    record { few = shaped .dimension .1; many = shaped .many; size = shaped .size; bytes = live-passed (s .n) (s .live) (p .1) .bytes }
 
 -- Of the first i live bytes: whether each is 0 or 1, and how many are 1.
 pub record CountedTo (live : List ℕ) (i : ℕ) (all : Bool) (many : ℕ) : Type 0 where

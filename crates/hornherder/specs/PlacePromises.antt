@@ -92,9 +92,7 @@ module _ (k : ℕ) (point : List ℤ) (f : Faces) {a : Placing} (e : a ≡ place
 
         of-face : (i : ℕ) → i < f .h → Between (negsuc 12884770815) (margin (region k f) i (lone point)) (pos 12884770816)
         of-face i l =
-            let few = t .tested .few in
-            let point-ranges : Coordinates k (lone point) = rw (lone-coord k point) at (t .tested .each 0 refl) in
-            margin-between (region k f) i few point-ranges
+            margin-between (region k f) i (t .dimension .1) (t .ranges)
             (λ d m. t .faced .components (i * k + d) (coordinate-place k (f .h) (f .normals) (t .faced .normals-size) l m))
             (t .faced .offsets-range i (omega (arith, t .faced .offsets-size)))
 

@@ -15,9 +15,12 @@ use Rattle.terms.specs.declared.Screening.{Screening}
 use Rattle.terms.specs.declared.Explaining.{Explaining}
 use Rattle.terms.specs.declared.Placing.{Placing}
 use Rattle.terms.specs.declared.Listing.{Listing}
+use Rattle.terms.specs.declared.Taking.{Taking}
 use Rattle.terms.specs.Tests.{every}
 use Rattle.terms.specs.Lent.{Stock, Order, Faces, Regions}
-use Rattle.terms.specs.Points.{isCoordinate}
+use Rattle.terms.specs.Live.{isLive}
+use Rattle.terms.specs.Points.{pointOf, isCoordinate, belongsTo}
+use Rattle.terms.specs.LivePoints.{membersInRange}
 use Rattle.terms.specs.Value.{numerator, denominator}
 use Rattle.terms.specs.Reading.{nothing, valuesOf, valueAt, gives}
 use Rattle.terms.specs.PointCall.{numbersOf, placeOf, pointRefusals, pointCode, pointAnswer, MadeAs}
@@ -28,12 +31,14 @@ use Rattle.terms.specs.ListRegionsCall.{RegionsListedAs}
 use Rattle.terms.specs.ScreenCall.{screenAnswer}
 use Rattle.terms.specs.ExplainCall.{explainAnswer}
 use Rattle.terms.specs.PlaceCall.{placeAnswer}
+use Rattle.terms.specs.TakeCall.{TakenAs}
 use Rattle.theory.specs.Flags.{true-and}
 use Rattle.theory.specs.Counting.{every-append}
 use Rattle.theory.specs.Floors.{IsFloor}
 use Rattle.theory.specs.Values.{coordinate-is-floor, coordinate-rises}
 use Rattle.theory.specs.FirstRefusal.{FirstHeld, if-refused}
 use Rattle.theory.specs.FirstRefusalIsLowest.{Lowest}
+use Rattle.theory.specs.PointsInRange.{blind-in-range}
 use Rattle.theory.specs.NeverRefused.{
   never-answered,
   build-never-five,
@@ -42,6 +47,7 @@ use Rattle.theory.specs.NeverRefused.{
   list-regions-never-five,
   screen-never-five,
   explain-never-five,
+  take-never-five,
   place-never-five,
 }
 use Rattle.theory.specs.PointCall.{
@@ -63,6 +69,7 @@ use Rattle.hornherder.specs.CheckPromises.{check-answers-the-first}
 use Rattle.hornherder.specs.ListPromises.{list-answers-the-first}
 use Rattle.hornherder.specs.ListRegionsPromises.{list-regions-answers-the-first}
 use Rattle.hornherder.specs.ScreenPromises.{screen-answers-the-first}
+use Rattle.hornherder.specs.TakePromises.{take-answers-the-first}
 use Rattle.hornherder.specs.ExplainPromises.{explain-answers-the-first}
 use Rattle.hornherder.specs.PlacePromises.{place-answers-the-first}
 
@@ -135,24 +142,35 @@ made-points-fit (one-more r place {x = x} {points} e m w) =
     every-append isCoordinate x points ∙ true-and (made-numbers-are-coordinates r place e m) (made-points-fit w)
 
 module _ (s : Stock) (o : Order) (made : MadePoints (s .points)) where
+  in-range : membersInRange (s .k) (pointOf s) (belongsTo s) (s .n) ≡ true
+  in-range = blind-in-range (s .k) (s .points) (belongsTo s) (s .n) (made-points-fit made)
+
   pub build-takes-made-points : {a : ℕ} {x : Order} → Built s o a x → a ≢ 5
-  build-takes-made-points e = never-answered (omega arith) (build-never-five s o (made-points-fit made)) (build-answers-the-first e)
+  build-takes-made-points e = never-answered (omega arith) (build-never-five s o in-range) (build-answers-the-first e)
 
   pub check-takes-made-points : {a : ℕ} → a ≡ checkAnswer s o → a ≢ 5
-  check-takes-made-points e = never-answered (omega arith) (check-never-five s o (made-points-fit made)) (check-answers-the-first s o e)
+  check-takes-made-points e = never-answered (omega arith) (check-never-five s o in-range) (check-answers-the-first s o e)
 
   pub list-takes-made-points : (f : Faces) (list : List ℕ) {a : Listing} {x : List ℕ} → ListedAs s o f list a x → a .code ≢ 5
-  list-takes-made-points f list e = never-answered (omega arith) (list-never-five s o (made-points-fit made) f list) (list-answers-the-first s o f list e)
+  list-takes-made-points f list e = never-answered (omega arith) (list-never-five s o in-range f list) (list-answers-the-first s o f list e)
 
   pub list-regions-takes-made-points : (g : Regions) (lists counts : List ℕ) {a : ℕ} {x y : List ℕ} → RegionsListedAs s o g lists counts a x y → a ≢ 5
   list-regions-takes-made-points g lists counts e =
-      never-answered (omega arith) (list-regions-never-five s o (made-points-fit made) g lists counts) (list-regions-answers-the-first s o g lists counts e)
+      never-answered (omega arith) (list-regions-never-five s o in-range g lists counts) (list-regions-answers-the-first s o g lists counts e)
 
   pub screen-takes-made-points : (f : Faces) {a : Screening} → a ≡ screenAnswer s o f → a .code ≢ 5
-  screen-takes-made-points f e = never-answered (omega arith) (screen-never-five s o (made-points-fit made) f) (screen-answers-the-first s o f e)
+  screen-takes-made-points f e = never-answered (omega arith) (screen-never-five s o in-range f) (screen-answers-the-first s o f e)
 
   pub explain-takes-made-points : (f : Faces) (p : ℕ) {a : Explaining} → a ≡ explainAnswer s o f p → a .code ≢ 5
-  explain-takes-made-points f p e = never-answered (omega arith) (explain-never-five s o (made-points-fit made) f p) (explain-answers-the-first s o f p e)
+  explain-takes-made-points f p e = never-answered (omega arith) (explain-never-five s o in-range f p) (explain-answers-the-first s o f p e)
+
+pub take-takes-made-points : (k n : ℕ) (points : List ℤ) (live : List ℕ) (point : List ℤ) → MadePoints points → MadePoints point
+    → {a : Taking} {x : List ℤ} {y : List ℕ} → TakenAs k n points live point a x y → a .code ≢ 5
+take-takes-made-points k n points live point made own e =
+    never-answered
+    (omega arith)
+    (take-never-five k n points live point (blind-in-range k points (isLive n live) n (made-points-fit made)) (made-points-fit own))
+    (take-answers-the-first k n points live point e)
 
 pub place-takes-made-points : (k : ℕ) (point : List ℤ) (f : Faces) → MadePoints point → {a : Placing} → a ≡ placeAnswer k point f → a .code ≢ 5
 place-takes-made-points k point f made e = never-answered (omega arith) (place-never-five k point f (made-points-fit made)) (place-answers-the-first k point f e)

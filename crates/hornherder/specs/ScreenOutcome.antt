@@ -27,7 +27,7 @@ module _ (s : Stock) (o : Order) (f : Faces) {c : ℕ} (first : First (screenRef
   unfolding screenCode
   screen-coded = first .is
 
-  -- What 1 to 8, 11 and 9 have tested.
+  -- What 1, 2, 3, 15, 4 to 8, 11 and 9 have tested.
   pub screen-tested : c ≡ 0 → ScreenPassed s o f
   screen-tested z = screen-passed s o f (sym screen-coded ∙ z)
 

@@ -85,8 +85,8 @@ module _ (s : Stock) (o : Order) (f : Faces) {b : Screening} (e : b ≡ screenAn
   screen-of-closed-faces zeros = e ∙ closed-screen-answer f zeros s o
 
   -- Places from n on are not read.
-  pub screen-reads-n-slots : (q : Order) → shelfRun s o ≡ shelfRun s q → {c : Screening} → c ≡ screenAnswer s q f → b ≡ c
-  screen-reads-n-slots q same g = e ∙ screen-reads s o q f same ∙ sym g
+  pub screen-reads-v-slots : (q : Order) → shelfRun s o ≡ shelfRun s q → {c : Screening} → c ≡ screenAnswer s q f → b ≡ c
+  screen-reads-v-slots q same g = e ∙ screen-reads s o q f same ∙ sym g
 
   -- Beside the list call with the same arguments and a list buffer with room.
   module _ {list : List ℕ} (room : slotsOf s ≤ length list) {a : Listing} {x : List ℕ} (l : ListedAs s o f list a x) where
@@ -113,7 +113,7 @@ module _ (s : Stock) (o : Order) (f : Faces) {b : Screening} (e : b ≡ screenAn
     pub screen-visits-at-most-the-faces : b .visits ≤ totalTo (f .h) (λ i. listAnswer s o (faceAlone (s .k) f i) list .visits)
     screen-visits-at-most-the-faces = omega (arith, screen-visits-at-most-the-list-call-s, rw (← l .answered) at (list-visits-le-faces s o f list))
 
-    -- "Where all faces are square, visits are at most h times S(n, k)."
+    -- "Where all faces are square, visits are at most h times S(v, k)."
     pub screen-visits-at-most-hS : ((i : ℕ) → i < f .h → isSquare (region (s .k) f) i ≡ true) → b .visits ≤ f .h * S (slotsOf s) (s .k)
     screen-visits-at-most-hS squares = omega (arith, screen-visits-at-most-the-list-call-s, rw (← l .answered) at (list-visits-le-S s o f list squares))
 

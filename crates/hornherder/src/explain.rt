@@ -1,5 +1,6 @@
 // The explain call.
-use crate::refuse::number_refusal;
+use crate::refuse::Tested;
+use crate::refuse::dead_refusal;
 use crate::screen::screen_refusal;
 use descent::root::root_box;
 use reason::reason;
@@ -8,9 +9,10 @@ use terms::Reason;
 ghost use mathlib.Core.Path.{_≡_};
 ghost use Prim.Native.Nat.{_<_};
 ghost use Rattle.terms.specs.Lent.{stock, orderOf, faces};
+ghost use Rattle.terms.specs.Live.{liveCount};
 ghost use Rattle.terms.specs.ExplainCall.{explainRefusals, explainAnswer, explaining};
 ghost use Rattle.theory.specs.Reasons.{Named};
-ghost use Rattle.hornherder.specs.First.{First};
+ghost use Rattle.hornherder.specs.First.{Found};
 
 // Why a picture is inside or outside a region: one of four reasons with a slot, and for outside a face and the picture's margin to it. A refusal has its
 // number and zeros.
@@ -21,29 +23,42 @@ pub extern "C" fn hornherder_explain(
     h: usize,
     number: u32,
     points: &[i32],
+    live: &[u8],
     order: &[u32],
     normals: &[i32],
     offsets: &[i64],
     marks: &[u8],
 ) -> Explaining
-    ensures { λ r. ⌜ r ≡ explainAnswer (stock k n (now (points .entry))) (orderOf (now (order .entry)))
+    ensures { λ r. ⌜ r ≡ explainAnswer (stock k n (now (points .entry)) (now (live .entry))) (orderOf (now (order .entry)))
         (faces h (now (normals .entry)) (now (offsets .entry)) (now (marks .entry))) number ⌝ }
 {
-    let code = explain_refusal(k, n, h, number, points, order, normals, offsets, marks);
-    if code != 0 {
+    let tested = explain_refusal(
+        k,
+        n,
+        h,
+        number,
+        points,
+        live,
+        order,
+        normals,
+        offsets,
+        marks,
+    );
+    if tested.code != 0 {
         return Explaining {
-            code: code,
+            code: tested.code,
             reason: 0,
             face: 0,
             slot: 0,
             margin: 0,
         };
     }
-    let rows = root_box(k, n, points);
+    let v = tested.slots;
+    let rows = root_box(k, n, points, &order[0..v]);
     explained(reason(
         k,
         points,
-        &order[0..n],
+        &order[0..v],
         normals,
         offsets,
         marks,
@@ -88,24 +103,29 @@ fn answered(reason: u8, slot: usize, face: usize, margin: i64) -> Explaining
     }
 }
 
-// The first of 1 to 8, 11, 9 and 13 that holds of the explain call's arguments, or 0.
+// The first of 1, 2, 3, 15, 4 to 8, 11, 9 and 17 that holds of the explain call's arguments, or 0 and how many slots the shelf has.
 fn explain_refusal(
     k: usize,
     n: usize,
     h: usize,
     number: u32,
     points: &[i32],
+    live: &[u8],
     order: &[u32],
     normals: &[i32],
     offsets: &[i64],
     marks: &[u8],
-) -> u32
-    ensures { λ r. ⌜ First (explainRefusals (stock k n (now (points .entry))) (orderOf (now (order .entry)))
-        (faces h (now (normals .entry)) (now (offsets .entry)) (now (marks .entry))) number) r ⌝ }
+) -> Tested
+    ensures { λ r. ⌜ Found (explainRefusals (stock k n (now (points .entry)) (now (live .entry))) (orderOf (now (order .entry)))
+        (faces h (now (normals .entry)) (now (offsets .entry)) (now (marks .entry))) number) (liveCount n (now (live .entry))) (r .code) (r .slots) ⌝ }
 {
-    let code = screen_refusal(k, n, h, points, order, normals, offsets, marks);
-    if code != 0 {
-        return code;
+    let screened = screen_refusal(k, n, h, points, live, order, normals, offsets, marks);
+    if screened.code != 0 {
+        return screened;
     }
-    number_refusal(n, number)
+    let dead = dead_refusal(n, number, live);
+    Tested {
+        code: dead,
+        slots: screened.slots,
+    }
 }

@@ -1,7 +1,8 @@
 // The call that lists several regions.
-use crate::refuse::coordinate_refusal;
+use crate::refuse::Tested;
 use crate::refuse::face_counts_refusal;
 use crate::refuse::face_slice_refusal;
+use crate::refuse::live_coordinate_refusal;
 use crate::refuse::region_count_refusal;
 use crate::refuse::room_refusal;
 use crate::refuse::stock_refusal;
@@ -12,11 +13,12 @@ ghost use mathlib.Core.Path.{_≡_};
 ghost use Prim.Native.Nat.{ℕ, _≤_, _<_};
 ghost use lib.ListN.{length};
 ghost use Rattle.terms.specs.Lent.{stock, orderOf, regions as lentRegions, regionsOf};
+ghost use Rattle.terms.specs.Live.{liveCount};
 ghost use Rattle.terms.specs.RegionFaces.{facesIn, facesBefore};
 ghost use Rattle.terms.specs.ListRegionsCall.{regionRoomRefusals, regionFaceRefusals, listRegionsRefusals, RegionsListedAs};
-ghost use Rattle.hornherder.specs.First.{First};
+ghost use Rattle.hornherder.specs.First.{First, Found};
 
-// The two lists of a shelf against each of several regions, region after region: n places for each in the list buffer, and three counts for each in the counts
+// The two lists of a shelf against each of several regions, region after region: v places for each in the list buffer, and three counts for each in the counts
 // buffer: inside, outside, visits. The order is checked once. Returns 0, or the number of a refusal, which writes nothing.
 #[no_mangle]
 pub extern "C" fn hornherder_list_regions(
@@ -24,6 +26,7 @@ pub extern "C" fn hornherder_list_regions(
     n: usize,
     regions: usize,
     points: &[i32],
+    live: &[u8],
     order: &[u32],
     face_counts: &[u32],
     normals: &[i32],
@@ -32,15 +35,16 @@ pub extern "C" fn hornherder_list_regions(
     lists: &mut [u32],
     counts: &mut [u32],
 ) -> u32
-    ensures { λ r. ⌜ RegionsListedAs (stock k n (now (points .entry))) (orderOf (now (order .entry)))
+    ensures { λ r. ⌜ RegionsListedAs (stock k n (now (points .entry)) (now (live .entry))) (orderOf (now (order .entry)))
         (lentRegions regions (now («face_counts» .entry)) (now (normals .entry)) (now (offsets .entry)) (now (marks .entry)))
         (now (lists .entry)) (now (counts .entry)) r (now (lists .exit)) (now (counts .exit)) ⌝ }
 {
-    let code = list_regions_refusal(
+    let tested = list_regions_refusal(
         k,
         n,
         regions,
         points,
+        live,
         order,
         face_counts,
         normals,
@@ -49,14 +53,15 @@ pub extern "C" fn hornherder_list_regions(
         lists,
         counts,
     );
-    if code != 0 {
-        return code;
+    if tested.code != 0 {
+        return tested.code;
     }
-    let rows = root_box(k, n, points);
+    let v = tested.slots;
+    let rows = root_box(k, n, points, &order[0..v]);
     walk_regions(
         k,
         points,
-        &order[0..n],
+        &order[0..v],
         face_counts,
         normals,
         offsets,
@@ -68,12 +73,13 @@ pub extern "C" fn hornherder_list_regions(
     0
 }
 
-// The first of 1, 2, 3, 14, 4 to 8, 11 and 9 that holds of the call's arguments, or 0.
+// The first of 1, 2, 3, 15, 14, 4 to 8, 11 and 9 that holds of the call's arguments, or 0 and how many slots the shelf has.
 fn list_regions_refusal(
     k: usize,
     n: usize,
     regions: usize,
     points: &[i32],
+    live: &[u8],
     order: &[u32],
     face_counts: &[u32],
     normals: &[i32],
@@ -81,32 +87,49 @@ fn list_regions_refusal(
     marks: &[u8],
     lists: &[u32],
     counts: &[u32],
-) -> u32
-    ensures { λ r. ⌜ First (listRegionsRefusals (stock k n (now (points .entry))) (orderOf (now (order .entry)))
+) -> Tested
+    ensures { λ r. ⌜ Found (listRegionsRefusals (stock k n (now (points .entry)) (now (live .entry))) (orderOf (now (order .entry)))
         (lentRegions regions (now («face_counts» .entry)) (now (normals .entry)) (now (offsets .entry)) (now (marks .entry)))
-        (now (lists .entry)) (now (counts .entry))) r ⌝ }
+        (now (lists .entry)) (now (counts .entry))) (liveCount n (now (live .entry))) (r .code) (r .slots) ⌝ }
 {
-    let shape = stock_refusal(k, n, points);
-    if shape != 0 {
+    let shape = stock_refusal(k, n, points, live);
+    if shape.code != 0 {
         return shape;
     }
+    let v = shape.slots;
     let count = region_count_refusal(regions, face_counts);
     if count != 0 {
-        return count;
+        return Tested {
+            code: count,
+            slots: 0,
+        };
     }
-    let room = region_room_refusal(n, regions, order.len(), lists.len(), counts.len());
+    let room = region_room_refusal(v, regions, order.len(), lists.len(), counts.len());
     if room != 0 {
-        return room;
+        return Tested {
+            code: room,
+            slots: 0,
+        };
     }
-    let coordinate = coordinate_refusal(points);
+    let coordinate = live_coordinate_refusal(k, n, points, live);
     if coordinate != 0 {
-        return coordinate;
+        return Tested {
+            code: coordinate,
+            slots: 0,
+        };
     }
     let face = region_face_refusal(k, face_counts, normals, offsets, marks);
     if face != 0 {
-        return face;
+        return Tested {
+            code: face,
+            slots: 0,
+        };
     }
-    tree_refusal(k, n, points, order)
+    let tree = tree_refusal(k, n, v, points, live, order);
+    Tested {
+        code: tree,
+        slots: v,
+    }
 }
 
 // 4 where the order is short of its slots, the list buffer of as many places a region, or the counts buffer of three a region.

@@ -1,5 +1,5 @@
 // The refusal tests, a function for each group that returns its number where a test of it holds, or 0; and the groups that several calls make together: the
-// stock's shape, the faces' slices, and the faces.
+// points' shape, the stock's, the faces' slices, and the faces.
 use crate::live::count_live;
 use crate::live::live_within;
 use crate::ranges::all_at_most;
@@ -8,11 +8,10 @@ use crate::ranges::all_within;
 use crate::ranges::all_within_wide;
 use arrange::check::check;
 ghost use mathlib.Core.Path.{_≡_};
-ghost use mathlib.Core.List.{List};
-ghost use Prim.Native.Nat.{ℕ, _≤_};
+ghost use Prim.Native.Nat.{_≤_};
 ghost use lib.ListN.{length};
-ghost use lib.IntN.{ℤ};
 ghost use Rattle.terms.specs.Lent.{stock, orderOf, faces};
+ghost use Rattle.terms.specs.Live.{liveCount};
 ghost use Rattle.terms.specs.Refusals.{
   dimensionRefusals,
   sizeRefusals,
@@ -26,17 +25,18 @@ ghost use Rattle.terms.specs.Refusals.{
   faceRangeRefusals,
   markRefusals,
   treeRefusals,
-  numberRefusals,
   regionCountRefusals,
+  liveRefusals,
   fullRefusals,
   deadRefusals,
+  shapeRefusals,
   stockRefusals,
   faceSliceRefusals,
   faceRefusals,
 };
 ghost use Rattle.theory.specs.Tested.{TestedPoints};
-ghost use Rattle.hornherder.specs.First.{First};
-ghost use Rattle.hornherder.specs.Live.{LivePoints, LiveFound};
+ghost use Rattle.hornherder.specs.First.{First, Found};
+ghost use Rattle.hornherder.specs.Live.{LivePoints};
 
 // 1 where k is not 1 to 4.
 pub fn dimension_refusal(k: usize) -> u32
@@ -81,11 +81,11 @@ pub fn room_refusal(places: usize, room: usize) -> u32
     0
 }
 
-// 5 where a coordinate is out of range.
-pub fn coordinate_refusal(points: &[i32]) -> u32
-    ensures { λ r. ⌜ First (coordinateRefusals (now (points .entry))) r ⌝ }
+// 5 where a coordinate of a point that is lent alone is out of range.
+pub fn coordinate_refusal(point: &[i32]) -> u32
+    ensures { λ r. ⌜ First (coordinateRefusals (now (point .entry))) r ⌝ }
 {
-    if !all_within(points, -32768, 32767) {
+    if !all_within(point, -32768, 32767) {
         return 5;
     }
     0
@@ -94,7 +94,7 @@ pub fn coordinate_refusal(points: &[i32]) -> u32
 // 5 where a live number's coordinate is out of range.
 pub fn live_coordinate_refusal(k: usize, n: usize, points: &[i32], live: &[u8]) -> u32
     requires { ⌜ LivePoints k n (now points) (now live) ⌝ }
-    ensures { λ r. ⌜ First (liveCoordinateRefusals k n (now (points .entry)) (now (live .entry))) r ⌝ }
+    ensures { λ r. ⌜ First (liveCoordinateRefusals (stock k n (now (points .entry)) (now (live .entry)))) r ⌝ }
 {
     if !live_within(k, n, points, live) {
         return 5;
@@ -163,27 +163,17 @@ fn mark_refusal(h: usize, marks: &[u8]) -> u32
     0
 }
 
-// 9 where the first n slots are not the tree of the points.
-pub fn tree_refusal(k: usize, n: usize, points: &[i32], order: &[u32]) -> u32
-    requires { ⌜ TestedPoints (stock k n (now points)) ⌝ }
-    requires { ⌜ n ≤ length (now order) ⌝ }
-    ensures { λ r. ⌜ First (treeRefusals (stock k n (now (points .entry))) (orderOf (now (order .entry)))) r ⌝ }
+// 9 where the first v slots are not the tree of the live points.
+pub fn tree_refusal(k: usize, n: usize, v: usize, points: &[i32], live: &[u8], order: &[u32]) -> u32
+    requires { ⌜ TestedPoints (stock k n (now points) (now live)) ⌝ }
+    requires { ⌜ v ≡ liveCount n (now live) ⌝ }
+    requires { ⌜ v ≤ length (now order) ⌝ }
+    ensures { λ r. ⌜ First (treeRefusals (stock k n (now (points .entry)) (now (live .entry))) (orderOf (now (order .entry)))) r ⌝ }
 {
-    if check(k, n, points, &order[0..n]) {
+    if check(k, n, points, live, &order[0..v]) {
         return 0;
     }
     9
-}
-
-// 13 where the number is not below n.
-pub fn number_refusal(n: usize, number: u32) -> u32
-    ensures { λ r. ⌜ ((k : ℕ) (points : List ℤ) → First (numberRefusals (stock k n points) number) r) ⌝ }
-{
-    let p = number as usize;
-    if n <= p {
-        return 13;
-    }
-    0
 }
 
 // 14 where the region count is not 1 to 64, or the face counts are not as many.
@@ -202,36 +192,35 @@ pub fn region_count_refusal(regions: usize, face_counts: &[u32]) -> u32
     0
 }
 
-// What the test of the live bytes finds: 15 or 0, and beside 0 how many numbers are live.
-pub struct LiveTest {
+// What tests with the live bytes among them find: the first refusal or 0, and beside 0 how many slots the shelf has: v, as many as numbers are live.
+pub struct Tested {
     pub code: u32,
-    pub live: u32,
+    pub slots: usize,
 }
 
 // 15 where the live bytes are not n, or one is neither 0 nor 1; else how many numbers are live, counted in the same pass.
-pub fn live_refusal(n: usize, live: &[u8]) -> LiveTest
+pub fn live_refusal(n: usize, live: &[u8]) -> Tested
     requires { ⌜ n ≤ 65535 ⌝ }
-    ensures { λ r. ⌜ LiveFound n (now (live .entry)) (r .code) (r .live) ⌝ }
+    ensures { λ r. ⌜ Found (liveRefusals n (now (live .entry))) (liveCount n (now (live .entry))) (r .code) (r .slots) ⌝ }
 {
     if live.len() != n {
-        return LiveTest { code: 15, live: 0 };
+        return Tested { code: 15, slots: 0 };
     }
     let bytes = count_live(n, live);
     if !bytes.all {
-        return LiveTest { code: 15, live: 0 };
+        return Tested { code: 15, slots: 0 };
     }
-    LiveTest {
+    Tested {
         code: 0,
-        live: bytes.live,
+        slots: bytes.live as usize,
     }
 }
 
 // 16 where none is dead: so many are live as there are numbers.
-pub fn full_refusal(n: usize, live: u32) -> u32
-    ensures { λ r. ⌜ First (fullRefusals n live) r ⌝ }
+pub fn full_refusal(n: usize, v: usize) -> u32
+    ensures { λ r. ⌜ First (fullRefusals n v) r ⌝ }
 {
-    let many = live as usize;
-    if many == n {
+    if v == n {
         return 16;
     }
     0
@@ -252,9 +241,23 @@ pub fn dead_refusal(n: usize, number: u32, live: &[u8]) -> u32
     0
 }
 
-// The first of 1, 2 and 3 that holds of the stock, or 0.
-pub fn stock_refusal(k: usize, n: usize, points: &[i32]) -> u32
-    ensures { λ r. ⌜ First (stockRefusals (stock k n (now (points .entry)))) r ⌝ }
+// The first of 1, 2, 3 and 15 that holds of the stock, or 0 and how many slots its shelf has.
+pub fn stock_refusal(k: usize, n: usize, points: &[i32], live: &[u8]) -> Tested
+    ensures { λ r. ⌜ Found (stockRefusals (stock k n (now (points .entry)) (now (live .entry)))) (liveCount n (now (live .entry))) (r .code) (r .slots) ⌝ }
+{
+    let shape = shape_refusal(k, n, points);
+    if shape != 0 {
+        return Tested {
+            code: shape,
+            slots: 0,
+        };
+    }
+    live_refusal(n, live)
+}
+
+// The first of 1, 2 and 3 that holds of the points, or 0.
+pub fn shape_refusal(k: usize, n: usize, points: &[i32]) -> u32
+    ensures { λ r. ⌜ First (shapeRefusals k n (now (points .entry))) r ⌝ }
 {
     let dimension = dimension_refusal(k);
     if dimension != 0 {

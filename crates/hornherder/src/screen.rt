@@ -1,5 +1,6 @@
 // The screen call.
 use crate::build::build_refusal;
+use crate::refuse::Tested;
 use crate::refuse::face_refusal;
 use crate::refuse::tree_refusal;
 use descent::root::root_box;
@@ -7,8 +8,9 @@ use screen_walk::screen;
 use terms::Screening;
 ghost use mathlib.Core.Path.{_≡_};
 ghost use Rattle.terms.specs.Lent.{stock, orderOf, faces};
+ghost use Rattle.terms.specs.Live.{liveCount};
 ghost use Rattle.terms.specs.ScreenCall.{screenRefusals, screenAnswer};
-ghost use Rattle.hornherder.specs.First.{First};
+ghost use Rattle.hornherder.specs.First.{Found};
 
 // Whether any picture is inside a region: the inside number in the lowest slot, or none, and the visits up to there. A refusal has its number and
 // zeros.
@@ -18,24 +20,26 @@ pub extern "C" fn hornherder_screen(
     n: usize,
     h: usize,
     points: &[i32],
+    live: &[u8],
     order: &[u32],
     normals: &[i32],
     offsets: &[i64],
     marks: &[u8],
 ) -> Screening
-    ensures { λ r. ⌜ r ≡ screenAnswer (stock k n (now (points .entry))) (orderOf (now (order .entry))) (faces h (now (normals .entry)) (now (offsets .entry)) (now (marks .entry))) ⌝ }
+    ensures { λ r. ⌜ r ≡ screenAnswer (stock k n (now (points .entry)) (now (live .entry))) (orderOf (now (order .entry))) (faces h (now (normals .entry)) (now (offsets .entry)) (now (marks .entry))) ⌝ }
 {
-    let code = screen_refusal(k, n, h, points, order, normals, offsets, marks);
-    if code != 0 {
+    let tested = screen_refusal(k, n, h, points, live, order, normals, offsets, marks);
+    if tested.code != 0 {
         return Screening {
-            code: code,
+            code: tested.code,
             found: 0,
             number: 0,
             visits: 0,
         };
     }
-    let rows = root_box(k, n, points);
-    let seen = screen(k, points, &order[0..n], normals, offsets, marks, rows);
+    let v = tested.slots;
+    let rows = root_box(k, n, points, &order[0..v]);
+    let seen = screen(k, points, &order[0..v], normals, offsets, marks, rows);
     if seen.found {
         return Screening {
             code: 0,
@@ -52,27 +56,36 @@ pub extern "C" fn hornherder_screen(
     }
 }
 
-// The first of 1 to 8, 11 and 9 that holds of the screen call's arguments, or 0.
+// The first of 1, 2, 3, 15, 4 to 8, 11 and 9 that holds of the screen call's arguments, or 0 and how many slots the shelf has.
 pub fn screen_refusal(
     k: usize,
     n: usize,
     h: usize,
     points: &[i32],
+    live: &[u8],
     order: &[u32],
     normals: &[i32],
     offsets: &[i64],
     marks: &[u8],
-) -> u32
-    ensures { λ r. ⌜ First (screenRefusals (stock k n (now (points .entry))) (orderOf (now (order .entry)))
-        (faces h (now (normals .entry)) (now (offsets .entry)) (now (marks .entry)))) r ⌝ }
+) -> Tested
+    ensures { λ r. ⌜ Found (screenRefusals (stock k n (now (points .entry)) (now (live .entry))) (orderOf (now (order .entry)))
+        (faces h (now (normals .entry)) (now (offsets .entry)) (now (marks .entry)))) (liveCount n (now (live .entry))) (r .code) (r .slots) ⌝ }
 {
-    let code = build_refusal(k, n, points, order);
-    if code != 0 {
-        return code;
+    let built = build_refusal(k, n, points, live, order);
+    if built.code != 0 {
+        return built;
     }
+    let v = built.slots;
     let face = face_refusal(k, h, normals, offsets, marks);
     if face != 0 {
-        return face;
+        return Tested {
+            code: face,
+            slots: 0,
+        };
     }
-    tree_refusal(k, n, points, order)
+    let tree = tree_refusal(k, n, v, points, live, order);
+    Tested {
+        code: tree,
+        slots: v,
+    }
 }

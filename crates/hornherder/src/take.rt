@@ -5,7 +5,7 @@ use crate::refuse::full_refusal;
 use crate::refuse::length_refusal;
 use crate::refuse::live_coordinate_refusal;
 use crate::refuse::live_refusal;
-use crate::refuse::stock_refusal;
+use crate::refuse::shape_refusal;
 use terms::Taking;
 ghost use mathlib.Core.Path.{_≡_};
 ghost use lib.ListN.{length};
@@ -13,7 +13,14 @@ ghost use Rattle.terms.specs.TakeCall.{takeRefusals, TakenAs};
 ghost use Rattle.hornherder.specs.First.{First};
 
 // Writes a point at the lowest dead number, sets its live byte, and answers the number. A refusal has its number and 0, and writes nothing.
-pub fn take(k: usize, n: usize, points: &mut [i32], live: &mut [u8], point: &[i32]) -> Taking
+#[no_mangle]
+pub extern "C" fn hornherder_take(
+    k: usize,
+    n: usize,
+    points: &mut [i32],
+    live: &mut [u8],
+    point: &[i32],
+) -> Taking
     ensures { λ r. ⌜ TakenAs k n (now (points .entry)) (now (live .entry)) (now (point .entry)) r (now (points .exit)) (now (live .exit)) ⌝ }
 {
     let code = take_refusal(k, n, points, live, point);
@@ -48,7 +55,7 @@ fn write_coordinates(point: &[i32], place: &mut [i32])
 fn take_refusal(k: usize, n: usize, points: &[i32], live: &[u8], point: &[i32]) -> u32
     ensures { λ r. ⌜ First (takeRefusals k n (now (points .entry)) (now (live .entry)) (now (point .entry))) r ⌝ }
 {
-    let shape = stock_refusal(k, n, points);
+    let shape = shape_refusal(k, n, points);
     if shape != 0 {
         return shape;
     }
@@ -68,5 +75,5 @@ fn take_refusal(k: usize, n: usize, points: &[i32], live: &[u8], point: &[i32]) 
     if own != 0 {
         return own;
     }
-    full_refusal(n, bytes.live)
+    full_refusal(n, bytes.slots)
 }

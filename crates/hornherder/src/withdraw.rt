@@ -6,7 +6,8 @@ ghost use Rattle.terms.specs.WithdrawCall.{withdrawRefusals, WithdrawnAs};
 ghost use Rattle.hornherder.specs.First.{First};
 
 // Clears a live number's byte. Returns 0, or the number of a refusal, which writes nothing.
-pub fn withdraw(n: usize, number: u32, live: &mut [u8]) -> u32
+#[no_mangle]
+pub extern "C" fn hornherder_withdraw(n: usize, number: u32, live: &mut [u8]) -> u32
     ensures { λ r. ⌜ WithdrawnAs n number (now (live .entry)) r (now (live .exit)) ⌝ }
 {
     let code = withdraw_refusal(n, number, live);

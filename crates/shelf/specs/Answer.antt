@@ -1,5 +1,5 @@
 -- The program's answer to a text: number 10 if the text says no numbers; else what building and listing give, printed.
--- The buffers of both calls may hold anything at first, with room for n numbers.
+-- The buffers of both calls may hold anything at first, with room for the numbers of the shelf.
 use mathlib.Core.Path.{_≡_}
 use mathlib.Core.Logic.{_≢_}
 use mathlib.Core.List.{List}
@@ -32,12 +32,12 @@ pub data Shelved (s : Stock) (f : Faces) (printed : List ℕ) : Type 0 where
       → printed ≡ refusedText number → Shelved s f printed
   build-done : (o after : Order) → slotsOf s ≤ length (o .slots) → Built s o 0 after → Listed s after f printed → Shelved s f printed
 
--- What is printed for a text; its faces are closed.
+-- What is printed for a text; its faces are closed, and its points all live.
 pub data Answer (text printed : List ℕ) : Type 0 where
   not-the-text : ((k n h : ℕ) (points normals offsets : List ℤ) → Says text k n h points normals offsets → ⊥)
       → printed ≡ refusedText 10 → Answer text printed
   the-text : {k n h : ℕ} {points normals offsets : List ℤ} → Says text k n h points normals offsets
-      → Shelved (stock k n points) (faces h normals offsets (replicate h 0)) printed → Answer text printed
+      → Shelved (stock k n points (replicate n 1)) (faces h normals offsets (replicate h 0)) printed → Answer text printed
 
 -- The first r bytes of the output are a text of this kind.
 pub record Writes (Kind : List ℕ → Type 0) (out : List ℕ) (r : ℕ) : Type 0 where

@@ -6,14 +6,17 @@ use mathlib.Core.List.{List, _∷_}
 use Prim.Native.Nat.{ℕ, zero, suc, _*_, _≤_}
 use native.Mathlib.Nat.{mul-le-mul}
 use native.Mathlib.Omega.{arith}
-use lib.ListN.{length, take, replicate}
+use lib.ListN.{length, take, replicate, length-replicate, getD-replicate}
 use lib.IntN.{ℤ}
 use Rattle.terms.specs.declared.Listing.{Listing}
 use Rattle.terms.specs.Lent.{Stock, Order, Faces, stock, faces}
+use Rattle.terms.specs.Live.{isSet, liveCount}
 use Rattle.terms.specs.Points.{slotsOf}
 use Rattle.terms.specs.BuildCall.{Built}
 use Rattle.terms.specs.ListCall.{listAnswer, listAfter}
 use Rattle.theory.specs.Flags.{not-true, not-false}
+use Rattle.theory.specs.Counting.{at-every}
+use Rattle.theory.specs.LiveNumbers.{all-live}
 use Rattle.text.specs.Answer.{refusedText}
 use Rattle.text.specs.TextReading.{ReadsText}
 use Rattle.text.specs.Printing.{Printed}
@@ -46,6 +49,12 @@ take-replicate zero n x l = refl
 take-replicate (suc h) zero x l = absurd (omega arith)
 take-replicate (suc h) (suc n) x l = ap (λ ys. x ∷ ys) (take-replicate h n x (omega arith))
 
+-- Ones for all of n numbers: n are live.
+pub ones-live : (n : ℕ) → n ≤ 512 → liveCount n (take n (replicate 512 1)) ≡ n
+ones-live n l = rw (take-replicate {A = ℕ} n 512 1 l)
+    (all-live n (replicate n 1) (length-replicate n 1) (at-every isSet 0 (replicate n 1) (λ i m.
+    rw (getD-replicate {A = ℕ} n i 1 0 (omega (arith, length-replicate {A = ℕ} n 1))))))
+
 module _ {text : List ℕ} {points normals offsets : List ℤ} {ok : Bool} {k n h : ℕ} (reads : ReadsText text points normals offsets ok k n h)
     {out : List ℕ} {r : ℕ} where
   -- The text says no numbers.
@@ -53,10 +62,12 @@ module _ {text : List ℕ} {points normals offsets : List ℤ} {ok : Bool} {k n 
   answer-ten m p = record { inside = p .inside; kind = not-the-text (reads .silent (not-true ok m)) (p .bytes) }
 
   -- The text says numbers.
-  pub answer-shelved : not ok ≡ false → Writes (Shelved (stock k n (take (k * n) points)) (faces h (take (k * h) normals) (take h offsets) (take h (replicate 64 0)))) out r → Writes (Answer text) out r
+  pub answer-shelved : not ok ≡ false → Writes (Shelved (stock k n (take (k * n) points) (take n (replicate 512 1))) (faces h (take (k * h) normals) (take h offsets) (take h (replicate 64 0)))) out r → Writes (Answer text) out r
   answer-shelved y w =
-      let zeros : take {A = ℕ} h (replicate 64 0) ≡ replicate h 0 = take-replicate h 64 0 (reads .says (not-false ok y) .admitted .faces-few) in
-      record { inside = w .inside; kind = the-text (reads .says (not-false ok y)) (rw zeros at (w .kind)) }
+      let admitted = reads .says (not-false ok y) .admitted in
+      let zeros : take {A = ℕ} h (replicate 64 0) ≡ replicate h 0 = take-replicate h 64 0 (admitted .faces-few) in
+      let ones : take {A = ℕ} n (replicate 512 1) ≡ replicate n 1 = take-replicate n 512 1 (admitted .points-few) in
+      record { inside = w .inside; kind = the-text (reads .says (not-false ok y)) (rw (ones, zeros) at (w .kind)) }
 
 -- The sizes of what a text says, for which the buffers have room.
 pub record Sizes (k n h : ℕ) : Type 0 where

@@ -1,7 +1,9 @@
 // What the program answers to a text: it reads the text, builds the shelf, lists it against the region, and writes the answer.
+ghost use mathlib.Core.Path.{_≡_};
 ghost use Prim.Native.Nat.{_≤_};
 ghost use lib.ListN.{length};
 ghost use Rattle.terms.specs.Lent.{stock, orderOf, faces};
+ghost use Rattle.terms.specs.Live.{liveCount};
 ghost use Rattle.shelf.specs.Answer.{Listed, Shelved, Answer, Writes};
 use hornherder::build::hornherder_build;
 use hornherder::list::hornherder_list;
@@ -9,7 +11,7 @@ use text::input::read;
 use text::output::write_answer;
 use text::output::write_refused;
 
-// Writes the answer to a text, and says how many bytes it is. The faces of a text are closed.
+// Writes the answer to a text, and says how many bytes it is. The faces of a text are closed, and its points all live.
 pub fn answer(input: &[u8], out: &mut [u8]) -> usize
     requires { ⌜ 16384 ≤ length (now out) ⌝ }
     ensures { λ r. ⌜ Writes (Answer (now (input .entry))) (now (out .exit)) r ⌝ }
@@ -18,6 +20,7 @@ pub fn answer(input: &[u8], out: &mut [u8]) -> usize
     let mut normals = [0i32; 576];
     let mut offsets = [0i64; 64];
     let closed = [0u8; 64];
+    let live = [1u8; 512];
     let said = read(input, &mut points, &mut normals, &mut offsets);
     if !said.ok {
         return write_refused(10, out);
@@ -32,6 +35,7 @@ pub fn answer(input: &[u8], out: &mut [u8]) -> usize
         n,
         h,
         &points[0..coordinates],
+        &live[0..n],
         &normals[0..components],
         &offsets[0..h],
         &closed[0..h],
@@ -45,21 +49,23 @@ fn build_shelf(
     n: usize,
     h: usize,
     points: &[i32],
+    live: &[u8],
     normals: &[i32],
     offsets: &[i64],
     marks: &[u8],
     out: &mut [u8],
 ) -> usize
     requires { ⌜ n ≤ 512 ⌝ }
+    requires { ⌜ liveCount n (now live) ≡ n ⌝ }
     requires { ⌜ 16384 ≤ length (now out) ⌝ }
-    ensures { λ r. ⌜ Writes (Shelved (stock k n (now (points .entry))) (faces h (now (normals .entry)) (now (offsets .entry)) (now (marks .entry)))) (now (out .exit)) r ⌝ }
+    ensures { λ r. ⌜ Writes (Shelved (stock k n (now (points .entry)) (now (live .entry))) (faces h (now (normals .entry)) (now (offsets .entry)) (now (marks .entry)))) (now (out .exit)) r ⌝ }
 {
     let mut order = [0u32; 512];
-    let number = hornherder_build(k, n, points, &mut order);
+    let number = hornherder_build(k, n, points, live, &mut order);
     if number != 0 {
         return write_refused(number, out);
     }
-    list_shelf(k, n, h, points, &order, normals, offsets, marks, out)
+    list_shelf(k, n, h, points, live, &order, normals, offsets, marks, out)
 }
 
 // Lists a shelf and writes its order, the counts and the list, or the refusal of the list call.
@@ -68,6 +74,7 @@ fn list_shelf(
     n: usize,
     h: usize,
     points: &[i32],
+    live: &[u8],
     order: &[u32],
     normals: &[i32],
     offsets: &[i64],
@@ -75,12 +82,24 @@ fn list_shelf(
     out: &mut [u8],
 ) -> usize
     requires { ⌜ n ≤ 512 ⌝ }
+    requires { ⌜ liveCount n (now live) ≡ n ⌝ }
     requires { ⌜ n ≤ length (now order) ⌝ }
     requires { ⌜ 16384 ≤ length (now out) ⌝ }
-    ensures { λ r. ⌜ Writes (Listed (stock k n (now (points .entry))) (orderOf (now (order .entry))) (faces h (now (normals .entry)) (now (offsets .entry)) (now (marks .entry)))) (now (out .exit)) r ⌝ }
+    ensures { λ r. ⌜ Writes (Listed (stock k n (now (points .entry)) (now (live .entry))) (orderOf (now (order .entry))) (faces h (now (normals .entry)) (now (offsets .entry)) (now (marks .entry)))) (now (out .exit)) r ⌝ }
 {
     let mut list = [0u32; 512];
-    let listing = hornherder_list(k, n, h, points, order, normals, offsets, marks, &mut list);
+    let listing = hornherder_list(
+        k,
+        n,
+        h,
+        points,
+        live,
+        order,
+        normals,
+        offsets,
+        marks,
+        &mut list,
+    );
     if listing.code != 0 {
         return write_refused(listing.code, out);
     }

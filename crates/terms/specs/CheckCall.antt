@@ -5,7 +5,7 @@ use Rattle.terms.specs.Lent.{Stock, Order}
 use Rattle.terms.specs.Refusals.{Refusal, firstOf, treeRefusals}
 use Rattle.terms.specs.BuildCall.{buildRefusals}
 
--- Check: 1 to 5, 9.
+-- Check: 1, 2, 3, 15, 4, 5, 9.
 abbrev pub checkRefusals : Stock → Order → List Refusal
 checkRefusals s o = buildRefusals s o ++ treeRefusals s o
 

@@ -64,8 +64,12 @@ pub record Shelf : Type 0 where
   pub arranged : Order
 
 -- The shelf of these arguments.
+abbrev pub shelfWith : ℕ → ℕ → List ℤ → List ℕ → List ℕ → Shelf
+shelfWith k n points live slots = record { lent = stock k n points live; arranged = orderOf slots }
+
+-- The same with all live.
 abbrev pub shelf : ℕ → ℕ → List ℤ → List ℕ → Shelf
-shelf k n points slots = record { lent = stock k n points; arranged = orderOf slots }
+shelf k n points slots = shelfWith k n points (replicate n 1) slots
 
 -- The region of a row's arguments.
 abbrev pub cut : Shelf → Faces → Region
@@ -1278,11 +1282,11 @@ explain-refuses-order = explains pairSwapped fromFive 2 (unexplained 9)
 
 -- A number of n.
 abbrev pub explain-refuses-number : Row
-explain-refuses-number = explains pair fromFive 2 (unexplained 13)
+explain-refuses-number = explains pair fromFive 2 (unexplained 17)
 
 -- The empty shelf has no number.
 abbrev pub explain-refuses-number-of-none : Row
-explain-refuses-number-of-none = explains empty slantedInThree 0 (unexplained 13)
+explain-refuses-number-of-none = explains empty slantedInThree 0 (unexplained 17)
 
 -- By the four cases, m 8: number 1 goes out with the root, though its own branch and the left one are settled too.
 abbrev pub reason-nearest-the-root : Row
@@ -1458,6 +1462,174 @@ range-of-the-dead = inRanges 2 2 (pos 7 ∷ minus 32768 ∷ pos 32768 ∷ pos 5 
 
 abbrev pub range-of-the-live : Row
 range-of-the-live = inRanges 2 2 (pos 7 ∷ minus 32768 ∷ pos 32768 ∷ pos 5 ∷ []) (0 ∷ 1 ∷ []) false
+
+-- Shelf A with number 2 withdrawn, its coordinates any 32-bit numbers, in an order with a place more than live numbers.
+abbrev withdrawnA : Shelf
+withdrawnA = shelfWith 2 6 (pos 1 ∷ pos 5 ∷ pos 4 ∷ pos 2 ∷ pos 2147483647 ∷ minus 2147483648 ∷ pos 7 ∷ pos 1 ∷ pos 6 ∷ pos 6 ∷ pos 2 ∷ pos 2 ∷ []) (1 ∷ 1 ∷ 0 ∷ 1 ∷ 1 ∷ 1 ∷ []) (5 ∷ 0 ∷ 1 ∷ 3 ∷ 4 ∷ 77 ∷ [])
+
+-- The same, not arranged.
+abbrev anyWithdrawnA : Shelf
+anyWithdrawnA = ordered withdrawnA (9 ∷ 9 ∷ 9 ∷ 9 ∷ 9 ∷ 77 ∷ [])
+
+-- The tree of the five live points; the place from v on stays.
+abbrev pub dead-build : Row
+dead-build = builds anyWithdrawnA 0 (5 ∷ 0 ∷ 1 ∷ 3 ∷ 4 ∷ 77 ∷ [])
+
+-- It passes, whatever stands in the place from v on.
+abbrev pub dead-check : Row
+dead-check = checks withdrawnA 0
+
+-- The order of before holds the withdrawn number in its first v places.
+abbrev pub dead-check-old-order : Row
+dead-check-old-order = checks (ordered withdrawnA (1 ∷ 5 ∷ 0 ∷ 2 ∷ 3 ∷ 4 ∷ [])) 9
+
+-- An order of live numbers that is not their tree.
+abbrev pub dead-check-swapped : Row
+dead-check-swapped = checks (ordered withdrawnA (0 ∷ 5 ∷ 1 ∷ 3 ∷ 4 ∷ 77 ∷ [])) 9
+
+-- A number of n in the first v places.
+abbrev pub dead-check-number-of-n : Row
+dead-check-number-of-n = checks (ordered withdrawnA (5 ∷ 0 ∷ 1 ∷ 3 ∷ 6 ∷ 4 ∷ [])) 9
+
+-- A number taken since stands in no place: with all live the first six places are not the tree.
+abbrev pub taken-check-old-order : Row
+taken-check-old-order = checks (ordered shelfA (5 ∷ 0 ∷ 1 ∷ 3 ∷ 4 ∷ 2 ∷ [])) 9
+
+-- The two faces: number 4 is inside and the other four outside, backwards from place v - 1; the place from v on stays.
+abbrev pub dead-list : Row
+dead-list = lists withdrawnA twoFaces (8 ∷ 8 ∷ 8 ∷ 8 ∷ 8 ∷ 80 ∷ []) (counts 1 4 5) (4 ∷ 3 ∷ 1 ∷ 0 ∷ 5 ∷ 80 ∷ [])
+
+-- The root box is that of the live points, y to 6 where the withdrawn one had 8.
+abbrev pub dead-box : Row
+dead-box = boxed withdrawnA 2 ((pos 1 ∷ pos 7 ∷ []) ∷ (pos 1 ∷ pos 6 ∷ []) ∷ [])
+
+-- The screen finds number 4 in the last slot.
+abbrev pub dead-screen : Row
+dead-screen = screens withdrawnA twoFaces (finds 4 5)
+
+-- Number 4 is inside by its own test, in slot 4.
+abbrev pub dead-explain-inside : Row
+dead-explain-inside = explains withdrawnA twoFaces 4 (inside-because 2 4)
+
+-- Number 3 is outside by its own test, one below face 1.
+abbrev pub dead-explain-outside : Row
+dead-explain-outside = explains withdrawnA twoFaces 3 (outside-because 4 3 1 (minus 1))
+
+-- Nothing is told of the withdrawn number.
+abbrev pub explain-refuses-dead : Row
+explain-refuses-dead = explains withdrawnA twoFaces 2 (unexplained 17)
+
+-- A wrong order is 9 even for it.
+abbrev pub explain-refuses-order-before-dead : Row
+explain-refuses-order-before-dead = explains (ordered withdrawnA (1 ∷ 5 ∷ 0 ∷ 2 ∷ 3 ∷ 4 ∷ [])) twoFaces 2 (unexplained 9)
+
+-- No faces, then the two.
+abbrev noneThenTwo : Regions
+noneThenTwo = closedRegions 2 (0 ∷ 2 ∷ []) (pos 1 ∷ pos 1 ∷ minus 1 ∷ pos 0 ∷ []) (pos 7 ∷ minus 6 ∷ [])
+
+-- Region r's list starts at place r times v.
+abbrev pub dead-regions : Row
+dead-regions = listsRegions withdrawnA noneThenTwo (replicate 11 9) (replicate 7 8) 0 (5 ∷ 0 ∷ 1 ∷ 3 ∷ 4 ∷ 4 ∷ 3 ∷ 1 ∷ 0 ∷ 5 ∷ 9 ∷ []) (5 ∷ 0 ∷ 0 ∷ 1 ∷ 4 ∷ 5 ∷ 8 ∷ [])
+
+-- 4 where there are not v places a region.
+abbrev pub dead-regions-short-lists : Row
+dead-regions-short-lists = refusesRegions withdrawnA noneThenTwo (replicate 9 9) (replicate 6 8) 4
+
+-- Points 0 and 10 with number 1 withdrawn, in the order of before.
+abbrev pairWithOne : Shelf
+pairWithOne = shelfWith 1 2 (pos 0 ∷ pos 10 ∷ []) (1 ∷ 0 ∷ []) (0 ∷ 1 ∷ [])
+
+-- The withdrawn number stands at place v, which is not read: the order of before passes.
+abbrev pub withdrawn-at-place-v : Row
+withdrawn-at-place-v = checks pairWithOne 0
+
+-- And it is listed.
+abbrev pub withdrawn-at-place-v-list : Row
+withdrawn-at-place-v-list = lists pairWithOne fromFive (7 ∷ []) (counts 0 1 0) (0 ∷ [])
+
+-- With number 0 withdrawn it stands in the first place: 9.
+abbrev pub withdrawn-in-the-first-place : Row
+withdrawn-in-the-first-place = checks (shelfWith 1 2 (pos 0 ∷ pos 10 ∷ []) (0 ∷ 1 ∷ []) (0 ∷ 1 ∷ [])) 9
+
+-- 4 asks for v places: one is enough for one live number.
+abbrev pub dead-build-room : Row
+dead-build-room = builds (shelfWith 1 2 (pos 0 ∷ pos 10 ∷ []) (0 ∷ 1 ∷ []) (7 ∷ [])) 0 (1 ∷ [])
+
+-- None is too few.
+abbrev pub dead-build-short-order : Row
+dead-build-short-order = builds (shelfWith 1 2 (pos 0 ∷ pos 10 ∷ []) (0 ∷ 1 ∷ []) []) 4 []
+
+-- 4 for a list of no place.
+abbrev pub dead-list-short-list : Row
+dead-list-short-list = lists pairWithOne fromFive [] (refusal 4) []
+
+-- Two numbers, none live, with coordinates out of range.
+abbrev allDead : Shelf
+allDead = shelfWith 1 2 (pos 40000 ∷ minus 40000 ∷ []) (0 ∷ 0 ∷ []) []
+
+-- A shelf on which all are dead has no slot.
+abbrev pub all-dead-build : Row
+all-dead-build = builds allDead 0 []
+
+-- Its lists are empty.
+abbrev pub all-dead-list : Row
+all-dead-list = lists allDead fromFive (7 ∷ []) (counts 0 0 0) (7 ∷ [])
+
+-- 5 for a live number's coordinate, beside a dead one's.
+abbrev pub live-coordinate-refused : Row
+live-coordinate-refused = checks (shelfWith 1 2 (pos 40000 ∷ minus 40000 ∷ []) (0 ∷ 1 ∷ []) (1 ∷ [])) 5
+
+-- Points 0 and 10, numbers 0 and 2, and a dead number between them.
+abbrev pairAroundADead : Shelf
+pairAroundADead = shelfWith 1 3 (pos 0 ∷ pos 99999 ∷ pos 10 ∷ []) (1 ∷ 0 ∷ 1 ∷ []) (0 ∷ 2 ∷ [])
+
+-- The visits are S(v, k), v below n.
+abbrev pub dead-bound : Row
+dead-bound = attains pairAroundADead fromFive
+
+-- Live bytes one too few, with points one too few and no room.
+abbrev fewBytesAndPoints : Shelf
+fewBytesAndPoints = shelfWith 1 2 (pos 0 ∷ []) (1 ∷ []) []
+
+-- 3 before 15.
+abbrev pub build-refuses-points-before-bytes : Row
+build-refuses-points-before-bytes = builds fewBytesAndPoints 3 []
+
+-- Live bytes one too few, a coordinate out of range, and no room.
+abbrev fewBytes : Shelf
+fewBytes = shelfWith 1 2 (pos 0 ∷ pos 40000 ∷ []) (1 ∷ []) []
+
+-- 15 before 4 and 5, in each call.
+abbrev pub build-refuses-few-bytes : Row
+build-refuses-few-bytes = builds fewBytes 15 []
+
+-- The check.
+abbrev pub check-refuses-few-bytes : Row
+check-refuses-few-bytes = checks fewBytes 15
+
+-- The list.
+abbrev pub list-refuses-few-bytes : Row
+list-refuses-few-bytes = lists fewBytes tooManyFaces [] (refusal 15) []
+
+-- The screen.
+abbrev pub screen-refuses-few-bytes : Row
+screen-refuses-few-bytes = screens fewBytes tooManyFaces (unscreened 15)
+
+-- The reason.
+abbrev pub explain-refuses-few-bytes : Row
+explain-refuses-few-bytes = explains fewBytes tooManyFaces 9 (unexplained 15)
+
+-- And the regions, before 14.
+abbrev pub regions-refuse-few-bytes : Row
+regions-refuse-few-bytes = refusesRegions fewBytes (closedRegions 0 [] [] []) [] [] 15
+
+-- 15 for a byte too many.
+abbrev pub build-refuses-many-bytes : Row
+build-refuses-many-bytes = builds (shelfWith 1 2 (pos 0 ∷ pos 10 ∷ []) (1 ∷ 1 ∷ 1 ∷ []) (7 ∷ 7 ∷ [])) 15 (7 ∷ 7 ∷ [])
+
+-- 15 for a byte of 2.
+abbrev pub build-refuses-byte-two : Row
+build-refuses-byte-two = builds (shelfWith 1 2 (pos 0 ∷ pos 10 ∷ []) (1 ∷ 2 ∷ []) (7 ∷ 7 ∷ [])) 15 (7 ∷ 7 ∷ [])
 
 -- The point is written at number 1, the lowest dead of three, and its byte is set. Number 2 stays dead, with its coordinates.
 abbrev pub take-writes : Row
@@ -1787,6 +1959,40 @@ table =
     ∷ live-below-n
     ∷ range-of-the-dead
     ∷ range-of-the-live
+    ∷ dead-build
+    ∷ dead-check
+    ∷ dead-check-old-order
+    ∷ dead-check-swapped
+    ∷ dead-check-number-of-n
+    ∷ taken-check-old-order
+    ∷ dead-list
+    ∷ dead-box
+    ∷ dead-screen
+    ∷ dead-explain-inside
+    ∷ dead-explain-outside
+    ∷ explain-refuses-dead
+    ∷ explain-refuses-order-before-dead
+    ∷ dead-regions
+    ∷ dead-regions-short-lists
+    ∷ withdrawn-at-place-v
+    ∷ withdrawn-at-place-v-list
+    ∷ withdrawn-in-the-first-place
+    ∷ dead-build-room
+    ∷ dead-build-short-order
+    ∷ dead-list-short-list
+    ∷ all-dead-build
+    ∷ all-dead-list
+    ∷ live-coordinate-refused
+    ∷ dead-bound
+    ∷ build-refuses-points-before-bytes
+    ∷ build-refuses-few-bytes
+    ∷ check-refuses-few-bytes
+    ∷ list-refuses-few-bytes
+    ∷ screen-refuses-few-bytes
+    ∷ explain-refuses-few-bytes
+    ∷ regions-refuse-few-bytes
+    ∷ build-refuses-many-bytes
+    ∷ build-refuses-byte-two
     ∷ take-writes
     ∷ take-last
     ∷ take-passes-over-the-dead
@@ -1821,7 +2027,7 @@ table =
 
 -- The reason of number 1 where the root is settled: no branch is nearer.
 root-below : Holds reason-nearest-the-root
-unfolding lesser greater sumTo allTo anyTo leastFrom greatestFrom rootBox aboveAt isSettled isOpen branches
+unfolding lesser greater sumTo count rising allTo anyTo leastFrom greatestFrom rootBox aboveAt isSettled isOpen branches
 root-below = record {
   slot = 0;
   stands = record { known = omega arith; number = refl };
@@ -1834,7 +2040,7 @@ root-below = record {
 
 -- The reason of number 1 where the root is wholly above the one face.
 root-above : Holds reason-inside-with-branch
-unfolding lesser greater sumTo allTo anyTo leastFrom greatestFrom rootBox aboveAt isSettled isOpen branches
+unfolding lesser greater sumTo count rising allTo anyTo leastFrom greatestFrom rootBox aboveAt isSettled isOpen branches
 root-above = record {
   slot = 0;
   stands = record { known = omega arith; number = refl };
@@ -1851,14 +2057,14 @@ root-above = record {
 -- Both branches of the two points are open.
 pair-open : let bs : List Branch = shelfBranches 1 (pointOf (pair .lent)) (slots pair) in
     (t : ℕ) → t < length bs → isOpen (cut pair fromFive) (branchAt bs t .box) ≡ true
-unfolding lesser greater sumTo allTo anyTo leastFrom greatestFrom rootBox aboveAt isSettled isOpen branches
+unfolding lesser greater sumTo count rising allTo anyTo leastFrom greatestFrom rootBox aboveAt isSettled isOpen branches
 pair-open zero l = refl
 pair-open (suc zero) l = refl
 pair-open (suc (suc t)) l = absurd (omega arith)
 
 -- The reasons of the two points.
 node-inside : Holds reason-inside-by-itself
-unfolding lesser greater sumTo allTo anyTo leastFrom greatestFrom rootBox aboveAt isSettled isOpen branches
+unfolding lesser greater sumTo count rising allTo anyTo leastFrom greatestFrom rootBox aboveAt isSettled isOpen branches
 node-inside = record {
   slot = 1;
   stands = record { known = omega arith; number = refl };
@@ -1870,7 +2076,7 @@ node-inside = record {
     one (suc e) l = absurd (omega arith)
 
 left-outside : Holds reason-outside-by-itself
-unfolding lesser greater sumTo allTo anyTo leastFrom greatestFrom rootBox aboveAt isSettled isOpen branches
+unfolding lesser greater sumTo count rising allTo anyTo leastFrom greatestFrom rootBox aboveAt isSettled isOpen branches
 left-outside = record {
   slot = 0;
   stands = record { known = omega arith; number = refl };
@@ -1885,7 +2091,7 @@ left-outside = record {
 -- Where the left branch of A is the settled one, the root alone is nearer, and it is open.
 root-open : let bs : List Branch = shelfBranches 2 (pointOf (shelfA .lent)) (slots shelfA) in
     (t : ℕ) → t < length bs → branchAt bs t .depth < branchAt bs 1 .depth → isOpen (cut shelfA fiveAndSix) (branchAt bs t .box) ≡ true
-unfolding lesser greater sumTo allTo anyTo leastFrom greatestFrom rootBox aboveAt isSettled isOpen branches
+unfolding lesser greater sumTo count rising allTo anyTo leastFrom greatestFrom rootBox aboveAt isSettled isOpen branches
 root-open zero l d = absurd (omega arith)
 root-open (suc zero) l d = absurd (omega arith)
 root-open (suc (suc zero)) l d = absurd (omega arith)
@@ -1896,7 +2102,7 @@ root-open (suc (suc (suc (suc (suc (suc t)))))) l d = absurd (omega arith)
 
 -- The reason of number 1 there.
 left-below : Holds reason-lowest-face
-unfolding lesser greater sumTo allTo anyTo leastFrom greatestFrom rootBox aboveAt isSettled isOpen branches
+unfolding lesser greater sumTo count rising allTo anyTo leastFrom greatestFrom rootBox aboveAt isSettled isOpen branches
 left-below = record {
   slot = 0;
   stands = record { known = omega arith; number = refl };
@@ -2123,6 +2329,40 @@ examples-hold =
     also live-below-n by (refl, refl, refl)
     also range-of-the-dead by refl
     also range-of-the-live by refl
+    also dead-build by built refl refl refl refl
+    also dead-check by refl
+    also dead-check-old-order by refl
+    also dead-check-swapped by refl
+    also dead-check-number-of-n by refl
+    also taken-check-old-order by refl
+    also dead-list by (refl, refl)
+    also dead-box by refl
+    also dead-screen by refl
+    also dead-explain-inside by refl
+    also dead-explain-outside by refl
+    also explain-refuses-dead by refl
+    also explain-refuses-order-before-dead by refl
+    also dead-regions by (refl, refl, refl)
+    also dead-regions-short-lists by (refl, refl, refl)
+    also withdrawn-at-place-v by refl
+    also withdrawn-at-place-v-list by (refl, refl)
+    also withdrawn-in-the-first-place by refl
+    also dead-build-room by built refl refl refl refl
+    also dead-build-short-order by unbuilt refl
+    also dead-list-short-list by (refl, refl)
+    also all-dead-build by built refl refl refl refl
+    also all-dead-list by (refl, refl)
+    also live-coordinate-refused by refl
+    also dead-bound by refl
+    also build-refuses-points-before-bytes by unbuilt refl
+    also build-refuses-few-bytes by unbuilt refl
+    also check-refuses-few-bytes by refl
+    also list-refuses-few-bytes by (refl, refl)
+    also screen-refuses-few-bytes by refl
+    also explain-refuses-few-bytes by refl
+    also regions-refuse-few-bytes by (refl, refl, refl)
+    also build-refuses-many-bytes by unbuilt refl
+    also build-refuses-byte-two by unbuilt refl
     also take-writes by (refl, refl, refl)
     also take-last by (refl, refl, refl)
     also take-passes-over-the-dead by (refl, refl, refl)

@@ -10,12 +10,12 @@ use Rattle.terms.specs.Points.{pointOf}
 use Rattle.terms.specs.Tree.{shelfRun}
 use Rattle.terms.specs.Region.{region}
 use Rattle.terms.specs.Explain.{reasonOf}
-use Rattle.terms.specs.Refusals.{Refusal, firstOf, numberRefusals, ifDone}
+use Rattle.terms.specs.Refusals.{Refusal, firstOf, deadRefusals, ifDone}
 use Rattle.terms.specs.ScreenCall.{screenRefusals}
 
--- Explain: the list call's without its buffer, then 13.
+-- Explain: the list call's without its buffer, then 17.
 abbrev pub explainRefusals : Stock → Order → Faces → ℕ → List Refusal
-explainRefusals s o f p = screenRefusals s o f ++ numberRefusals s p
+explainRefusals s o f p = screenRefusals s o f ++ deadRefusals (s .n) p (s .live)
 
 -- The numbers and values that a reason is answered by.
 abbrev pub explaining : Reason → Explaining

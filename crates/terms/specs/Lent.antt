@@ -4,11 +4,12 @@ use Prim.Native.Nat.{ℕ}
 use lib.ListN.{length}
 use lib.IntN.{ℤ}
 
--- The stock: n points of k coordinates each, point 0 first.
+-- The stock: n points of k coordinates each, point 0 first, and a live byte for each, 0 dead or 1 live.
 pub record Stock : Type 0 where
   pub k : ℕ
   pub n : ℕ
   pub points : List ℤ
+  pub live : List ℕ
 
 -- The order: the number in each slot.
 pub record Order : Type 0 where
@@ -30,8 +31,8 @@ pub record Regions : Type 0 where
   pub marks : List ℕ
 
 -- The stock as a call is handed it.
-abbrev pub stock : ℕ → ℕ → List ℤ → Stock
-stock k n points = record { k = k; n = n; points = points }
+abbrev pub stock : ℕ → ℕ → List ℤ → List ℕ → Stock
+stock k n points live = record { k = k; n = n; points = points; live = live }
 
 -- The order as a call is handed it.
 abbrev pub orderOf : List ℕ → Order

@@ -11,15 +11,16 @@ use Rattle.terms.specs.Tree.{shelfRun}
 use Rattle.terms.specs.Region.{Region, region}
 use Rattle.terms.specs.Visits.{visits}
 use Rattle.terms.specs.Lists.{insides, outsides, places}
-use Rattle.terms.specs.Refusals.{Refusal, firstOf, stockRefusals, roomRefusals, coordinateRefusals, faceRefusals, treeRefusals, ifDone}
+use Rattle.terms.specs.Refusals.{Refusal, firstOf, shapeRefusals, liveRefusals, roomRefusals, liveCoordinateRefusals, faceRefusals, treeRefusals, ifDone}
 
--- List: 1 to 8, 11, then 9.
+-- List: 1, 2, 3, 15, 4 to 8, 11, then 9.
 abbrev pub listRefusals : Stock → Order → Faces → List ℕ → List Refusal
 listRefusals s o f list =
-    stockRefusals s
+    shapeRefusals (s .k) (s .n) (s .points)
+    ++ liveRefusals (s .n) (s .live)
     ++ roomRefusals (slotsOf s) (length (o .slots))
     ++ roomRefusals (slotsOf s) (length list)
-    ++ coordinateRefusals (s .points)
+    ++ liveCoordinateRefusals s
     ++ faceRefusals (s .k) f
     ++ treeRefusals s o
 
@@ -39,7 +40,7 @@ module _ (s : Stock) (o : Order) (f : Faces) (list : List ℕ) where
       (listing (region (s .k) f) (pointOf s) (shelfRun s o))
       (record { code = listCode; inside = 0; outside = 0; visits = 0 })
 
-  -- The list buffer after the list call: the first n places are the two lists, the later ones are as they were; refused, all are.
+  -- The list buffer after the list call: the first v places are the two lists, the later ones are as they were; refused, all are.
   unfoldable pub listAfter : List ℕ
   listAfter = ifDone listCode (places (region (s .k) f) (pointOf s) (shelfRun s o) ++ drop (slotsOf s) list) list
 

@@ -7,6 +7,7 @@ use lib.IntN.{ℤ, pos, negsuc}
 use lib.Signed.{leZ}
 use lib.Dec.{ltb}
 use Rattle.terms.specs.Lent.{Stock}
+use Rattle.terms.specs.Live.{isLive, liveCount}
 
 -- Coordinate d of a point that is lent alone.
 abbrev pub lone : List ℤ → ℕ → ℤ
@@ -16,7 +17,7 @@ lone point d = getD point d (pos 0)
 abbrev pub coord : ℕ → List ℤ → ℕ → ℕ → ℤ
 coord k points p d = getD points (p * k + d) (pos 0)
 
--- Which numbers belong to a shelf of n: those below n.
+-- The numbers below n.
 abbrev pub below : ℕ → ℕ → Bool
 below n p = ltb p n
 
@@ -24,13 +25,13 @@ below n p = ltb p n
 abbrev pub pointOf : Stock → ℕ → ℕ → ℤ
 pointOf s = coord (s .k) (s .points)
 
--- Which numbers belong to the stock.
+-- A number belongs to the stock if it is below n and its live byte is 1.
 abbrev pub belongsTo : Stock → ℕ → Bool
-belongsTo s = below (s .n)
+belongsTo s = isLive (s .n) (s .live)
 
--- How many slots the stock's shelf has.
+-- How many slots the stock's shelf has: v, as many as numbers are live.
 abbrev pub slotsOf : Stock → ℕ
-slotsOf s = s .n
+slotsOf s = liveCount (s .n) (s .live)
 
 -- The number is from least to greatest, both allowed.
 abbrev pub within : ℤ → ℤ → ℤ → Bool

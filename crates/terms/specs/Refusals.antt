@@ -10,7 +10,7 @@ use Rattle.terms.specs.declared.Reading.{Reading}
 use Rattle.terms.specs.Tests.{every}
 use Rattle.terms.specs.Lent.{Stock, Order, Faces}
 use Rattle.terms.specs.Live.{isLiveByte, isLive}
-use Rattle.terms.specs.Points.{coord, isCoordinate, belongsTo}
+use Rattle.terms.specs.Points.{pointOf, isCoordinate, belongsTo}
 use Rattle.terms.specs.Region.{isComponent, isOffset, isMark}
 use Rattle.terms.specs.Tree.{isShelf}
 use Rattle.terms.specs.LivePoints.{membersInRange}
@@ -46,13 +46,13 @@ lengthRefusals size points = record { number = 3; holds = notLong size points } 
 abbrev pub roomRefusals : ℕ → ℕ → List Refusal
 roomRefusals places room = record { number = 4; holds = ltb room places } ∷ []
 
--- 5: a coordinate is out of range.
+-- 5: a coordinate of a point that is lent alone is out of range.
 abbrev pub coordinateRefusals : List ℤ → List Refusal
-coordinateRefusals points = record { number = 5; holds = not (every isCoordinate points) } ∷ []
+coordinateRefusals point = record { number = 5; holds = not (every isCoordinate point) } ∷ []
 
--- 5: a live number's coordinate is out of range. Dead ones are passed over.
-abbrev pub liveCoordinateRefusals : ℕ → ℕ → List ℤ → List ℕ → List Refusal
-liveCoordinateRefusals k n points live = record { number = 5; holds = not (membersInRange k (coord k points) (isLive n live) n) } ∷ []
+-- 5: a coordinate of a number that belongs is out of range. Dead ones are passed over.
+abbrev pub liveCoordinateRefusals : Stock → List Refusal
+liveCoordinateRefusals s = record { number = 5; holds = not (membersInRange (s .k) (pointOf s) (belongsTo s) (s .n)) } ∷ []
 
 -- A region has at most 32 faces.
 abbrev pub isFaceCount : ℕ → Bool
@@ -80,17 +80,13 @@ faceRangeRefusals normals offsets =
 abbrev pub markRefusals : ℕ → List ℕ → List Refusal
 markRefusals h marks = record { number = 11; holds = notLong h marks } ∷ record { number = 11; holds = not (every isMark marks) } ∷ []
 
--- 9: the first n slots are not the tree of these points.
+-- 9: the first v slots are not the tree of the live points.
 abbrev pub treeRefusals : Stock → Order → List Refusal
 treeRefusals s o = record { number = 9; holds = not (isShelf s o) } ∷ []
 
 -- 12: a value of the reading is not finite, or out of range.
 abbrev pub valueRefusals : Reading → List Refusal
 valueRefusals r = record { number = 12; holds = not (allInRange r) } ∷ []
-
--- 13: a number that does not belong to the stock.
-abbrev pub numberRefusals : Stock → ℕ → List Refusal
-numberRefusals s p = record { number = 13; holds = not (belongsTo s p) } ∷ []
 
 -- 14: the region count is not 1 to 64, or the face counts are not as many.
 abbrev pub regionCountRefusals : ℕ → List ℕ → List Refusal
@@ -109,9 +105,13 @@ fullRefusals n v = record { number = 16; holds = eqb v n } ∷ []
 abbrev pub deadRefusals : ℕ → ℕ → List ℕ → List Refusal
 deadRefusals n p live = record { number = 17; holds = not (isLive n live p) } ∷ []
 
--- The stock's shape: 1, 2 and 3.
+-- The points' shape: 1, 2 and 3.
+abbrev pub shapeRefusals : ℕ → ℕ → List ℤ → List Refusal
+shapeRefusals k n points = dimensionRefusals k ++ sizeRefusals n ++ lengthRefusals (k * n) points
+
+-- The stock's: 1, 2, 3 and 15.
 abbrev pub stockRefusals : Stock → List Refusal
-stockRefusals s = dimensionRefusals (s .k) ++ sizeRefusals (s .n) ++ lengthRefusals (s .k * s .n) (s .points)
+stockRefusals s = shapeRefusals (s .k) (s .n) (s .points) ++ liveRefusals (s .n) (s .live)
 
 -- The lent slices of the faces: 7, 8 and 11.
 abbrev pub faceSliceRefusals : ℕ → Faces → List Refusal

@@ -11,7 +11,7 @@ use Rattle.terms.specs.Screen.{hasFirst, first, screenVisits}
 use Rattle.terms.specs.Refusals.{Refusal, firstOf, faceRefusals, treeRefusals, ifDone}
 use Rattle.terms.specs.BuildCall.{buildRefusals}
 
--- Screen: 1 to 8, 11, then 9, with 4 for the order alone.
+-- Screen: 1, 2, 3, 15, 4 to 8, 11, then 9, with 4 for the order alone.
 abbrev pub screenRefusals : Stock → Order → Faces → List Refusal
 screenRefusals s o f = buildRefusals s o ++ faceRefusals (s .k) f ++ treeRefusals s o
 

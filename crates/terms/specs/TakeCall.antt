@@ -10,7 +10,7 @@ use Rattle.terms.specs.LivePoints.{takenPoints}
 use Rattle.terms.specs.Refusals.{
   Refusal,
   firstOf,
-  stockRefusals,
+  shapeRefusals,
   lengthRefusals,
   liveRefusals,
   liveCoordinateRefusals,
@@ -22,10 +22,10 @@ use Rattle.terms.specs.Refusals.{
 -- Take: 1, 2, 3, 15, 5, 16, with 3 and 5 also for the new point.
 abbrev pub takeRefusals : ℕ → ℕ → List ℤ → List ℕ → List ℤ → List Refusal
 takeRefusals k n points live point =
-    stockRefusals (stock k n points)
+    shapeRefusals k n points
     ++ lengthRefusals k point
     ++ liveRefusals n live
-    ++ liveCoordinateRefusals k n points live
+    ++ liveCoordinateRefusals (stock k n points live)
     ++ coordinateRefusals point
     ++ fullRefusals n (liveCount n live)
 

@@ -25,6 +25,7 @@ use Rattle.terms.specs.Refusals.{
   lengthRefusals,
   roomRefusals,
   coordinateRefusals,
+  liveCoordinateRefusals,
   faceCountRefusals,
   faceLengthRefusals,
   faceRangeRefusals,
@@ -87,7 +88,7 @@ module _ (s : Stock) (o : Order) (f : Faces) where
         (stockRefusals s
         ++ roomRefusals (slotsOf s) (length (o .slots))
         ++ roomRefusals (slotsOf s) (length list)
-        ++ coordinateRefusals (s .points)
+        ++ liveCoordinateRefusals s
         ++ unmarkedFaceRefusals (s .k) f
         ++ treeRefusals s o)
 

@@ -8,11 +8,10 @@ use lib.ListN.{length, take, drop, take-append-drop}
 use lib.Dec.{ltb}
 use Rattle.terms.specs.Lent.{Stock, Order}
 use Rattle.terms.specs.Points.{slotsOf}
-use Rattle.terms.specs.Refusals.{Refusal, stockRefusals, roomRefusals, coordinateRefusals}
+use Rattle.terms.specs.Refusals.{Refusal, stockRefusals, roomRefusals, liveCoordinateRefusals}
 use Rattle.terms.specs.BuildCall.{buildRefusals, buildAnswer, Built}
 use Rattle.theory.specs.Tested.{TestedPoints}
 use Rattle.theory.specs.FirstRefusal.{Passed, FirstHeld, noZero, first-held, passed-parts}
-use Rattle.theory.specs.FirstRefusalIsLowest.{Lowest, risesFrom, first-lowest}
 use Rattle.theory.specs.RefusalsPassed.{stock-passed, room-passed}
 use Rattle.theory.specs.UniqueOrder.{one-shelf}
 
@@ -27,23 +26,18 @@ module _ (s : Stock) (o : Order) where
   unfolding noZero buildAnswer
   build-first = first-held (buildRefusals s o) refl
 
-  -- The numbers rise, so the first is the lowest: "the lowest that holds is returned".
-  pub build-lowest : Lowest (buildRefusals s o) (buildAnswer s o)
-  unfolding risesFrom buildAnswer
-  build-lowest = first-lowest 1 (buildRefusals s o) (omega arith) refl
-
   pub build-tests-passed : Passed (buildRefusals s o) → BuildPassed s o
   build-tests-passed w =
       let R : List Refusal = roomRefusals (slotsOf s) (length (o .slots)) in
-      let a = passed-parts (stockRefusals s) (R ++ coordinateRefusals (s .points)) w in
-      let b = passed-parts R (coordinateRefusals (s .points)) (a .1) in
+      let a = passed-parts (stockRefusals s) (R ++ liveCoordinateRefusals s) w in
+      let b = passed-parts R (liveCoordinateRefusals s) (a .1) in
       record { tested = stock-passed s (a .0) (b .1); room = room-passed (slotsOf s) (length (o .slots)) (b .0) }
 
   -- "Build: 1 to 5."
   pub build-passed : buildAnswer s o ≡ 0 → BuildPassed s o
   build-passed e = build-tests-passed (build-first .done e)
 
--- "The builder takes any first contents": its answer reads of the order only whether it has n places.
+-- "The builder takes any first contents": its answer reads of the order only whether it has v places.
 pub build-reads : (s : Stock) (o q : Order) → ltb (length (o .slots)) (slotsOf s) ≡ ltb (length (q .slots)) (slotsOf s) → buildAnswer s o ≡ buildAnswer s q
 unfolding buildAnswer
 build-reads s o q e = rw e

@@ -21,6 +21,13 @@ every-at test z [] e i l = absurd (not-suc-le-zero l)
 every-at test z (x ∷ xs) e zero l = and-true (test x) e .0
 every-at test z (x ∷ xs) e (suc i) l = every-at test z xs (and-true (test x) e .1) i (le-of-suc-le-suc l)
 
+-- At any place, where the test is passed by what stands for a missing item.
+pub every-or-default : {A : Type 0} (test : A → Bool) (z : A) → test z ≡ true → (xs : List A) → every test xs ≡ true → (i : ℕ) → test (getD xs i z) ≡ true
+unfolding every
+every-or-default test z d [] e i = d
+every-or-default test z d (x ∷ xs) e zero = and-true (test x) e .0
+every-or-default test z d (x ∷ xs) e (suc i) = every-or-default test z d xs (and-true (test x) e .1) i
+
 pub at-every : {A : Type 0} (test : A → Bool) (z : A) (xs : List A) → ((i : ℕ) → i < length xs → test (getD xs i z) ≡ true) → every test xs ≡ true
 unfolding every
 at-every test z [] e = refl

@@ -9,8 +9,7 @@ use lib.ListN.{length, getD}
 use lib.Dec.{eqb, ltb}
 use borrow.Author.Tests.{eqb-true, eq-eqb, ltb-true, lt-ltb}
 use Rattle.terms.specs.Tests.{bit, count, every, rising}
-use Rattle.terms.specs.Lent.{Stock}
-use Rattle.terms.specs.Points.{below, belongsTo, slotsOf}
+use Rattle.terms.specs.Points.{below}
 use Rattle.terms.specs.Tree.{members, eachOnce}
 use Rattle.theory.specs.Flags.{same-test, and-true, true-and}
 use Rattle.theory.specs.Counting.{Same, Distinct, every-at, at-every, bit-le, same-every, same-length, same-sym, same-trans, same-distinct}
@@ -131,16 +130,3 @@ pub distinct-shelf : (n : ℕ) {run : List ℕ} → length run ≡ n → ((i : �
 distinct-shelf n {run} size low d =
     distinct-each (below n) n (below-under n) (size ∙ sym (ap length (members-shelf n) ∙ length-rising 0 n))
     (at-every (below n) 0 run (λ i l. lt-ltb (getD run i 0) n (low i l))) d
-
--- ---- the shelf of a stock
--- What belongs to a stock is below its n.
-pub stock-under : (s : Stock) → BelongBelow (belongsTo s) (s .n)
-stock-under s = below-under (s .n)
-
--- As many numbers belong to it as its shelf has slots.
-pub stock-members : (s : Stock) → length (members (belongsTo s) (s .n)) ≡ slotsOf s
-stock-members s = ap length (members-shelf (s .n)) ∙ length-rising 0 (s .n)
-
--- A run that holds each number of the stock once has as many slots as the stock's shelf.
-pub stock-slots : (s : Stock) (run : List ℕ) → eachOnce (belongsTo s) (s .n) run ≡ true → length run ≡ slotsOf s
-stock-slots s run e = each-length (belongsTo s) (s .n) (stock-under s) run e ∙ stock-members s

@@ -19,15 +19,16 @@ use Rattle.terms.specs.Region.{Region, region, inside}
 use Rattle.terms.specs.Lists.{insides}
 use Rattle.terms.specs.Reason.{InRun, ReasonFor}
 use Rattle.terms.specs.Explain.{reasonOf}
-use Rattle.terms.specs.Refusals.{firstOf, numberRefusals, ifDone}
+use Rattle.terms.specs.Refusals.{firstOf, deadRefusals, ifDone}
 use Rattle.terms.specs.ScreenCall.{screenRefusals, screenCode}
 use Rattle.terms.specs.ListCall.{listCode}
 use Rattle.terms.specs.ExplainCall.{explainRefusals, explaining, explainCode, explainAnswer}
 use Rattle.theory.specs.Flags.{and-true}
 use Rattle.theory.specs.Counting.{count-keep, count-same, count-no}
-use Rattle.theory.specs.EachNumberOnce.{each-once, stock-under}
+use Rattle.theory.specs.EachNumberOnce.{each-once}
+use Rattle.theory.specs.StockNumbers.{stock-under}
 use Rattle.theory.specs.FirstRefusal.{FirstHeld, noZero, first-held, passed-parts, first-skip, first-stop}
-use Rattle.theory.specs.RefusalsPassed.{number-passed}
+use Rattle.theory.specs.RefusalsPassed.{dead-passed}
 use Rattle.theory.specs.CheckCall.{room-same}
 use Rattle.theory.specs.ScreenCall.{ScreenPassed, screen-tests-passed, screen-first, screen-code-is-list-code}
 use Rattle.theory.specs.Reasons.{saysInside, saysItself, tree-run, number-stands, reason-true, because-only}
@@ -83,29 +84,29 @@ pub record ExplainPassed (s : Stock) (o : Order) (f : Faces) (p : ℕ) : Type 0 
   pub belongs : belongsTo s p ≡ true
 
 module _ (s : Stock) (o : Order) (f : Faces) (p : ℕ) where
-  -- "Refusals: those of the list call without its buffer, then 13 for a number of n or more, tested last": the first in the order of testing; and 0 where none holds.
+  -- "Refusals: those of the list call without its buffer, then" 17 "for" a "number that is dead or not below n", "last": the first in the order of testing; and 0 where none holds.
   pub explain-first : FirstHeld (explainRefusals s o f p) (explainCode s o f p)
   unfolding noZero explainCode
   explain-first = first-held (explainRefusals s o f p) refl
 
   pub explain-passed : explainCode s o f p ≡ 0 → ExplainPassed s o f p
   explain-passed e =
-      let w = passed-parts (screenRefusals s o f) (numberRefusals s p) (explain-first .done e) in
-      record { screened = screen-tests-passed s o f (w .0); belongs = number-passed s p (w .1) }
+      let w = passed-parts (screenRefusals s o f) (deadRefusals (s .n) p (s .live)) (explain-first .done e) in
+      record { screened = screen-tests-passed s o f (w .0); belongs = dead-passed (s .n) p (s .live) (w .1) }
 
   -- "Those of the list call without its buffer": of a number that belongs, with room in a buffer, both are accepted or refused alike.
   pub explain-code-is-list-code : belongsTo s p ≡ true → (list : List ℕ) → slotsOf s ≤ length list → explainCode s o f p ≡ listCode s o f list
   unfolding explainCode screenCode firstOf
   explain-code-is-list-code b list room = rw b (screen-code-is-list-code s o f list room)
 
-  -- "Then 13, tested last": of a number that does not belong, 13 where the list call is accepted, and else its number.
-  pub explain-code-otherwise : belongsTo s p ≡ false → (list : List ℕ) → slotsOf s ≤ length list → explainCode s o f p ≡ ifDone (listCode s o f list) 13 (listCode s o f list)
+  -- "16 and 17 last": of a number that does not belong, 17 where the list call is accepted, and else its number.
+  pub explain-code-otherwise : belongsTo s p ≡ false → (list : List ℕ) → slotsOf s ≤ length list → explainCode s o f p ≡ ifDone (listCode s o f list) 17 (listCode s o f list)
   unfolding explainCode screenCode firstOf
   explain-code-otherwise b list room = rw (← screen-code-is-list-code s o f list room) (go (screenCode s o f) refl)
     where
-      go : (c : ℕ) → screenCode s o f ≡ c → firstOf (explainRefusals s o f p) ≡ ifDone c 13 c
-      go zero e = first-skip (screenRefusals s o f) (numberRefusals s p) (screen-first s o f .done e) ∙ rw b refl
-      go (suc c) e = first-stop (screenRefusals s o f) (numberRefusals s p) (λ z. absurd (omega (arith, e, z))) ∙ e
+      go : (c : ℕ) → screenCode s o f ≡ c → firstOf (explainRefusals s o f p) ≡ ifDone c 17 c
+      go zero e = first-skip (screenRefusals s o f) (deadRefusals (s .n) p (s .live)) (screen-first s o f .done e) ∙ rw b refl
+      go (suc c) e = first-stop (screenRefusals s o f) (deadRefusals (s .n) p (s .live)) (λ z. absurd (omega (arith, e, z))) ∙ e
 
   module _ (w : ExplainPassed s o f p) where
     abbrev g : Region
@@ -126,7 +127,7 @@ module _ (s : Stock) (o : Order) (f : Faces) (p : ℕ) where
     pub picture-reason-only : (why : Reason) → ReasonFor g (pointOf s) (shelfRun s o) p why → why ≡ reasonOf g (pointOf s) (shelfRun s o) p
     picture-reason-only why z = because-only g (pointOf s) (shelfRun s o) (tree-run g (pointOf s) (belongsTo s) (s .n) (shelfRun s o) shelf) (z .stands) why (z .because)
 
--- Orders that agree in their first n slots are explained alike.
+-- Orders that agree in their first v slots are explained alike.
 pub explain-reads : (s : Stock) (o q : Order) (f : Faces) (p : ℕ) → shelfRun s o ≡ shelfRun s q → explainAnswer s o f p ≡ explainAnswer s q f p
 unfolding explainAnswer explainCode
 explain-reads s o q f p e = rw (room-same (slotsOf s) (o .slots) (q .slots) e, e)

@@ -17,7 +17,8 @@ use Rattle.terms.specs.Region.{Region}
 use Rattle.terms.specs.Lists.{insides, outsides, places}
 use Rattle.theory.specs.Flags.{and-true}
 use Rattle.theory.specs.Counting.{Same, count-append, same-length}
-use Rattle.theory.specs.EachNumberOnce.{same-each, stock-slots}
+use Rattle.theory.specs.EachNumberOnce.{same-each}
+use Rattle.theory.specs.StockNumbers.{stock-slots}
 
 -- ---- turned round
 count-reverseAux : {A : Type 0} (test : A → Bool) (xs ys : List A) → count test (reverseAux xs ys) ≡ count test xs + count test ys

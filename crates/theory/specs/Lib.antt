@@ -45,6 +45,7 @@ pub mod MirroredFaces
 pub mod Margins
 pub mod LowestThatPasses
 pub mod LiveNumbers
+pub mod StockNumbers
 pub mod PointsInRange
 pub mod PointWritten
 pub mod RunSides
@@ -58,6 +59,7 @@ pub mod TreeIsDistinct
 pub mod TreeDepth
 pub mod RunTests
 pub mod PointsThatBelong
+pub mod AnswersAlike
 pub mod Answers
 pub mod RootBoxOfSame
 pub mod Floors
@@ -67,3 +69,4 @@ pub mod MembersAlike
 pub mod PointCall
 pub mod TakeCall
 pub mod WithdrawCall
+pub mod DeadCoordinates

@@ -1,5 +1,5 @@
 -- The list call: the first refusal is its number, what it has tested where that is 0, what it reads of the order and of the list buffer, and what it writes.
--- Done, the order has n slots and the buffer n places, and the two lists fill just those.
+-- Done, the order has v slots and the buffer v places, and the two lists fill just those.
 use mathlib.Core.Path.{_≡_, refl, sym, ap, _∙_}
 use mathlib.Core.Logic.{_≢_}
 use mathlib.Core.Bool.{true}
@@ -15,7 +15,7 @@ use Rattle.terms.specs.Points.{pointOf, slotsOf}
 use Rattle.terms.specs.Tree.{shelfRun, isShelf}
 use Rattle.terms.specs.Region.{region}
 use Rattle.terms.specs.Lists.{insides, outsides, places}
-use Rattle.terms.specs.Refusals.{Refusal, stockRefusals, roomRefusals, coordinateRefusals, faceRefusals, treeRefusals}
+use Rattle.terms.specs.Refusals.{Refusal, stockRefusals, roomRefusals, liveCoordinateRefusals, faceRefusals, treeRefusals}
 use Rattle.terms.specs.ListCall.{listRefusals, listCode, listAnswer, listAfter, ListedAs}
 use Rattle.theory.specs.Tested.{TestedPoints, TestedFaces}
 use Rattle.theory.specs.InsideAndOutside.{places-length}
@@ -42,7 +42,7 @@ pub record ListGroups (s : Stock) (o : Order) (f : Faces) (list : List ℕ) : Ty
   pub shape : Passed (stockRefusals s)
   pub order-room : Passed (roomRefusals (slotsOf s) (length (o .slots)))
   pub list-room : Passed (roomRefusals (slotsOf s) (length list))
-  pub coordinates : Passed (coordinateRefusals (s .points))
+  pub coordinates : Passed (liveCoordinateRefusals s)
   pub faces : Passed (faceRefusals (s .k) f)
   pub tree : Passed (treeRefusals s o)
 
@@ -54,7 +54,7 @@ module _ (s : Stock) (o : Order) (f : Faces) (list : List ℕ) where
   L = roomRefusals (slotsOf s) (length list)
 
   abbrev C : List Refusal
-  C = coordinateRefusals (s .points)
+  C = liveCoordinateRefusals s
 
   abbrev F : List Refusal
   F = faceRefusals (s .k) f
@@ -116,7 +116,7 @@ other-faces-done s o f g list e p =
 
 module _ (s : Stock) (o q : Order) (f : Faces) (list buffer : List ℕ) (slots : shelfRun s o ≡ shelfRun s q)
     (rooms : ltb (length list) (slotsOf s) ≡ ltb (length buffer) (slotsOf s)) where
-  -- The list call's number and answer are one of the first n slots of the order and of whether the buffer has n places.
+  -- The list call's number and answer are one of the first v slots of the order and of whether the buffer has v places.
   pub list-code-reads : listCode s o f list ≡ listCode s q f buffer
   unfolding listCode
   list-code-reads = rw (room-same (slotsOf s) (o .slots) (q .slots) slots, slots, rooms)
@@ -125,7 +125,7 @@ module _ (s : Stock) (o q : Order) (f : Faces) (list buffer : List ℕ) (slots :
   unfolding listAnswer
   list-answer-reads = rw (list-code-reads, slots)
 
-  -- Done, nothing is left of what the buffer held but its places from n on.
+  -- Done, nothing is left of what the buffer held but its places from v on.
   pub list-after-reads : drop (slotsOf s) list ≡ drop (slotsOf s) buffer → listCode s o f list ≡ 0 → listAfter s o f list ≡ listAfter s q f buffer
   unfolding listAfter
   list-after-reads later done =
@@ -165,7 +165,7 @@ module _ (s : Stock) (o : Order) (f : Faces) (list : List ℕ) where
         rw (filled, done)
         (take-append-le (length ins) both (drop (slotsOf s) list) (omega (arith, length-append ins out)) ∙ take-at ins out (length ins) refl)
 
-    -- "Places from n on are neither read nor written."
+    -- "Places from v on are neither read nor written."
     pub list-later : drop (slotsOf s) (listAfter s o f list) ≡ drop (slotsOf s) list
     list-later = rw filled (drop-at both (drop (slotsOf s) list) (slotsOf s) size)
 

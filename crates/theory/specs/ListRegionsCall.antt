@@ -15,7 +15,7 @@ use Rattle.terms.specs.Tree.{shelfRun, isShelf}
 use Rattle.terms.specs.EndToEnd.{endToEnd, part}
 use Rattle.terms.specs.RegionFaces.{facesOfRegion}
 use Rattle.terms.specs.ThreeCounts.{countsOf}
-use Rattle.terms.specs.Refusals.{Refusal, stockRefusals, regionCountRefusals, roomRefusals, coordinateRefusals, treeRefusals}
+use Rattle.terms.specs.Refusals.{Refusal, stockRefusals, regionCountRefusals, roomRefusals, liveCoordinateRefusals, treeRefusals}
 use Rattle.terms.specs.ListCall.{listCode, listAnswer, listAfter}
 use Rattle.terms.specs.ListRegionsCall.{
   regionFaceRefusals,
@@ -53,7 +53,7 @@ record RegionGroups (s : Stock) (o : Order) (g : Regions) (lists counts : List �
   order-room : Passed (roomRefusals (slotsOf s) (length (o .slots)))
   lists-room : Passed (roomRefusals (g .regionCount * slotsOf s) (length lists))
   counts-room : Passed (roomRefusals (g .regionCount * 3) (length counts))
-  coordinates : Passed (coordinateRefusals (s .points))
+  coordinates : Passed (liveCoordinateRefusals s)
   faces : Passed (regionFaceRefusals (s .k) g)
   tree : Passed (treeRefusals s o)
 
@@ -69,7 +69,7 @@ module _ (s : Stock) (o : Order) (g : Regions) (lists counts : List ℕ) where
       let O : List Refusal = roomRefusals (slotsOf s) (length (o .slots)) in
       let L : List Refusal = roomRefusals (g .regionCount * slotsOf s) (length lists) in
       let M : List Refusal = roomRefusals (g .regionCount * 3) (length counts) in
-      let C : List Refusal = coordinateRefusals (s .points) in
+      let C : List Refusal = liveCoordinateRefusals s in
       let F : List Refusal = regionFaceRefusals (s .k) g in
       let T : List Refusal = treeRefusals s o in
       let a = passed-parts (stockRefusals s) (N ++ O ++ L ++ M ++ C ++ F ++ T) (list-regions-first .done e) in
@@ -160,7 +160,7 @@ module _ (s : Stock) (o : Order) (g : Regions) (lists counts : List ℕ) where
 module _ (s : Stock) (o q : Order) (g : Regions) (lists counts listBuffer countsBuffer : List ℕ) (slots : shelfRun s o ≡ shelfRun s q)
     (list-rooms : ltb (length lists) (g .regionCount * slotsOf s) ≡ ltb (length listBuffer) (g .regionCount * slotsOf s))
     (count-rooms : ltb (length counts) (g .regionCount * 3) ≡ ltb (length countsBuffer) (g .regionCount * 3)) where
-  -- The call's number is one of the first n slots of the order and of whether the buffers have room.
+  -- The call's number is one of the first v slots of the order and of whether the buffers have room.
   pub list-regions-code-reads : listRegionsCode s o g lists counts ≡ listRegionsCode s q g listBuffer countsBuffer
   unfolding listRegionsCode
   list-regions-code-reads = rw (room-same (slotsOf s) (o .slots) (q .slots) slots, slots, list-rooms, count-rooms)

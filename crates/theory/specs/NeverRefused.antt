@@ -1,4 +1,4 @@
--- Points that are coordinates throughout are never refused by 5: of a call's tests with that number none holds, so it is not the first's.
+-- Points that are in range are never refused by 5: of a call's tests with that number none holds, so it is not the first's.
 use mathlib.Core.Path.{_≡_, refl, _∙_}
 use mathlib.Core.Logic.{_≢_}
 use mathlib.Core.Bool.{Bool, true, _&&_, not}
@@ -11,7 +11,9 @@ use lib.Dec.{eqb}
 use borrow.Author.Tests.{eq-eqb}
 use Rattle.terms.specs.Tests.{every}
 use Rattle.terms.specs.Lent.{Stock, Order, Faces, Regions}
-use Rattle.terms.specs.Points.{isCoordinate}
+use Rattle.terms.specs.Live.{isLive}
+use Rattle.terms.specs.Points.{coord, pointOf, isCoordinate, belongsTo}
+use Rattle.terms.specs.LivePoints.{membersInRange}
 use Rattle.terms.specs.Refusals.{Refusal}
 use Rattle.terms.specs.BuildCall.{buildRefusals}
 use Rattle.terms.specs.CheckCall.{checkRefusals}
@@ -20,6 +22,7 @@ use Rattle.terms.specs.ListRegionsCall.{listRegionsRefusals}
 use Rattle.terms.specs.ScreenCall.{screenRefusals}
 use Rattle.terms.specs.ExplainCall.{explainRefusals}
 use Rattle.terms.specs.PlaceCall.{placeRefusals}
+use Rattle.terms.specs.TakeCall.{takeRefusals}
 use Rattle.theory.specs.Flags.{clash, and-true, true-and, not-true}
 use Rattle.theory.specs.FirstRefusal.{none, FirstHeld}
 
@@ -43,7 +46,7 @@ never-answered {c} l {rs} e w = λ z.
     let p = w .found (λ n. omega arith) in
     never-at c rs e (p .0) (p .1) (p .2 ∙ z)
 
-module _ (s : Stock) (o : Order) (fit : every isCoordinate (s .points) ≡ true) where
+module _ (s : Stock) (o : Order) (fit : membersInRange (s .k) (pointOf s) (belongsTo s) (s .n) ≡ true) where
   pub build-never-five : neverHolds 5 (buildRefusals s o) ≡ true
   unfolding neverHolds
   build-never-five = rw fit
@@ -67,6 +70,11 @@ module _ (s : Stock) (o : Order) (fit : every isCoordinate (s .points) ≡ true)
   pub explain-never-five : (f : Faces) (p : ℕ) → neverHolds 5 (explainRefusals s o f p) ≡ true
   unfolding neverHolds
   explain-never-five f p = rw fit
+
+pub take-never-five : (k n : ℕ) (points : List ℤ) (live : List ℕ) (point : List ℤ) → membersInRange k (coord k points) (isLive n live) n ≡ true
+    → every isCoordinate point ≡ true → neverHolds 5 (takeRefusals k n points live point) ≡ true
+unfolding neverHolds
+take-never-five k n points live point fit own = rw (fit, own)
 
 pub place-never-five : (k : ℕ) (point : List ℤ) (f : Faces) → every isCoordinate point ≡ true → neverHolds 5 (placeRefusals k point f) ≡ true
 unfolding neverHolds

@@ -1,21 +1,26 @@
 -- The test of one point: the first refusal is its number, and what it has tested where that is 0.
 use mathlib.Core.Path.{_≡_, refl}
 use mathlib.Core.List.{List, _++_}
-use Prim.Native.Nat.{ℕ, _*_}
+use Prim.Native.Nat.{ℕ, _≤_}
 use native.Mathlib.Omega.{arith}
 use lib.ListN.{length}
-use lib.IntN.{ℤ}
-use Rattle.terms.specs.Lent.{Faces, stock}
+use lib.IntN.{ℤ, pos, negsuc}
+use Rattle.terms.specs.Tests.{every}
+use Rattle.terms.specs.Lent.{Faces}
+use Rattle.terms.specs.Points.{lone, isCoordinate}
 use Rattle.terms.specs.Refusals.{Refusal, dimensionRefusals, lengthRefusals, coordinateRefusals, faceRefusals}
 use Rattle.terms.specs.PlaceCall.{placeRefusals, placeCode}
-use Rattle.theory.specs.Tested.{TestedPoints, TestedFaces}
+use Rattle.theory.specs.Tested.{Coordinates, TestedFaces, within-each}
+use Rattle.theory.specs.Flags.{not-false}
 use Rattle.theory.specs.FirstRefusal.{FirstHeld, noZero, first-held, passed-parts}
 use Rattle.theory.specs.FirstRefusalIsLowest.{Lowest, risesFrom, first-lowest}
-use Rattle.theory.specs.RefusalsPassed.{dimension-passed, length-passed, stock-tested, faces-passed}
+use Rattle.theory.specs.RefusalsPassed.{dimension-passed, length-passed, faces-passed}
 
--- What the one-point test has tested: a stock of one point, and the faces.
+-- What the one-point test has tested: a point of k coordinates, in range, and the faces.
 pub record PlacePassed (k : ℕ) (point : List ℤ) (f : Faces) : Type 0 where
-  pub tested : TestedPoints (stock k 1 point)
+  pub dimension : (1 ≤ k) × (k ≤ 4)
+  pub size : length point ≡ k
+  pub ranges : Coordinates k (lone point)
   pub faced : TestedFaces k f
 
 module _ (k : ℕ) (point : List ℤ) (f : Faces) where
@@ -39,5 +44,10 @@ place-passed k point f e =
     let a = passed-parts D (L ++ C ++ F) (place-first k point f .done e) in
     let b = passed-parts L (C ++ F) (a .1) in
     let c = passed-parts C F (b .1) in
-    let size : length point ≡ k * 1 = omega (arith, length-passed k point (b .0)) in
-    record { tested = stock-tested (stock k 1 point) (dimension-passed k (a .0)) (omega arith) size (c .0); faced = faces-passed k f (c .1) }
+    let size : length point ≡ k = length-passed k point (b .0) in
+    record {
+      dimension = dimension-passed k (a .0);
+      size = size;
+      ranges = record { ranges = λ d l. within-each (negsuc 32767) (pos 32767) point (not-false (every isCoordinate point) (c .0 .fails 0)) d (omega arith) };
+      faced = faces-passed k f (c .1);
+    }

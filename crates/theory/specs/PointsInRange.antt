@@ -1,8 +1,8 @@
 -- The points of the numbers that belong: in range each by itself, by a blind test of all that is lent, and, where all belong, exactly by that test.
-use mathlib.Core.Path.{_≡_, ap}
+use mathlib.Core.Path.{_≡_, refl, ap}
 use mathlib.Core.Bool.{Bool, true, _&&_}
 use mathlib.Core.List.{List}
-use Prim.Native.Nat.{ℕ, _*_, _/_, _%_, _≤_, _<_}
+use Prim.Native.Nat.{ℕ, _+_, _*_, _/_, _%_, _≤_, _<_}
 use native.Mathlib.Nat.{mod-lt, div-add-mod', div-lt-iff-lt-mul, mul-comm}
 use native.Mathlib.Omega.{arith}
 use lib.ListN.{length, getD}
@@ -17,8 +17,8 @@ use Rattle.terms.specs.Tree.{members}
 use Rattle.terms.specs.LivePoints.{pointInRange, membersInRange}
 use Rattle.theory.specs.Flags.{same-test, and-true, true-and}
 use Rattle.theory.specs.AllAndAny.{all-each, each-all}
-use Rattle.theory.specs.Counting.{every-at, at-every}
-use Rattle.theory.specs.Tested.{Coordinates, coordinate-place}
+use Rattle.theory.specs.Counting.{every-at, at-every, every-or-default}
+use Rattle.theory.specs.Tested.{Coordinates}
 use Rattle.theory.specs.SameByNumber.{every-counted}
 use Rattle.theory.specs.RisingNumbers.{members-belong, members-below, count-members}
 
@@ -49,16 +49,17 @@ module _ (k : ℕ) (at : ℕ → ℕ → ℤ) (belongs : ℕ → Bool) (m : ℕ)
           (ltb-true _ m (every-at (below m) 0 (members belongs m) (members-below belongs m) i l))
           (every-at belongs 0 (members belongs m) (members-belong belongs m) i l)
 
+-- Where every lent coordinate is in range, so are those of the numbers that belong.
+pub blind-in-range : (k : ℕ) (points : List ℤ) (belongs : ℕ → Bool) (m : ℕ) → every isCoordinate points ≡ true
+    → membersInRange k (coord k points) belongs m ≡ true
+blind-in-range k points belongs m e =
+    each-in-range k (coord k points) belongs m (λ p l b. each-all k _ (λ d f. every-or-default isCoordinate (pos 0) refl points e (p * k + d)))
+
 -- The lent coordinates of points of k, m of them.
 module _ (k : ℕ) (points : List ℤ) (m : ℕ) (size : length points ≡ k * m) where
-  -- Where every lent coordinate is in range, so are those of the numbers that belong.
-  pub blind-in-range : (belongs : ℕ → Bool) → every isCoordinate points ≡ true → membersInRange k (coord k points) belongs m ≡ true
-  blind-in-range belongs e = each-in-range k (coord k points) belongs m
-      (λ p l b. each-all k _ (λ d f. every-at isCoordinate (pos 0) points e _ (coordinate-place k m points size l f)))
-
   -- With all live, "5 holds exactly if some lent coordinate is out of range".
   pub full-in-range : 1 ≤ k → membersInRange k (coord k points) (below m) m ≡ every isCoordinate points
-  full-in-range some = same-test (λ e. at-every isCoordinate (pos 0) points (back e)) (blind-in-range (below m))
+  full-in-range some = same-test (λ e. at-every isCoordinate (pos 0) points (back e)) (blind-in-range k points (below m) m)
     where
       back : membersInRange k (coord k points) (below m) m ≡ true → (u : ℕ) → u < length points → isCoordinate (getD points u (pos 0)) ≡ true
       back e u l =

@@ -24,7 +24,7 @@ use Rattle.theory.specs.Boxes.{Alike}
 -- Two stocks' points, of k coordinates, agree on the numbers that belong.
 module _ (k : ℕ) (some : 1 ≤ k) (belongs : ℕ → Bool) (at other : ℕ → ℕ → ℤ)
     (same : (p d : ℕ) → belongs p ≡ true → d < k → at p d ≡ other p d) where
-  same-before : (j p q : ℕ) → belongs p ≡ true → belongs q ≡ true → before at (axis k j) p q ≡ before other (axis k j) p q
+  pub same-before : (j p q : ℕ) → belongs p ≡ true → belongs q ≡ true → before at (axis k j) p q ≡ before other (axis k j) p q
   unfolding before
   same-before j p q a b =
       let l : axis k j < k = mod-lt j some in

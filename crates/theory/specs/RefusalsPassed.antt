@@ -11,7 +11,7 @@ use borrow.Author.Tests.{leb-true, ltb-false, le-ltb, eqb-true, eqb-false, eq-eq
 use Rattle.terms.specs.Tests.{every}
 use Rattle.terms.specs.Lent.{Stock, Order, Faces}
 use Rattle.terms.specs.Live.{isLiveByte, isLive}
-use Rattle.terms.specs.Points.{coord, isCoordinate, belongsTo}
+use Rattle.terms.specs.Points.{pointOf, isCoordinate, belongsTo}
 use Rattle.terms.specs.Region.{isComponent, isOffset, isMark}
 use Rattle.terms.specs.Tree.{isShelf}
 use Rattle.terms.specs.LivePoints.{membersInRange}
@@ -29,19 +29,20 @@ use Rattle.terms.specs.Refusals.{
   faceRangeRefusals,
   markRefusals,
   treeRefusals,
-  numberRefusals,
   regionCountRefusals,
   liveRefusals,
   fullRefusals,
   deadRefusals,
+  shapeRefusals,
   stockRefusals,
   faceSliceRefusals,
   faceRefusals,
 }
 use Rattle.theory.specs.Flags.{not-false, false-not, and-true}
 use Rattle.theory.specs.Counting.{every-at}
-use Rattle.theory.specs.Tested.{TestedPoints, TestedFaces, Between, within-each, coordinate-place}
-use Rattle.theory.specs.EachNumberOnce.{stock-under}
+use Rattle.theory.specs.Tested.{TestedPoints, TestedFaces, Between, within-each}
+use Rattle.theory.specs.StockNumbers.{stock-under}
+use Rattle.theory.specs.PointsInRange.{in-range-each, point-ranges}
 use Rattle.theory.specs.FirstRefusal.{Passed, passed-parts, passed-next, passed-none}
 
 pub dimension-passed : (k : ℕ) → Passed (dimensionRefusals k) → (1 ≤ k) × (k ≤ 4)
@@ -58,39 +59,49 @@ size-passed n w = ltb-false 65535 n (w .fails 0)
 pub room-passed : (slots room : ℕ) → Passed (roomRefusals slots room) → slots ≤ room
 room-passed slots room w = ltb-false room slots (w .fails 0)
 
-pub coordinates-passed : (points : List ℤ) → Passed (coordinateRefusals points)
-    → (i : ℕ) → i < length points → Between (negsuc 32767) (getD points i (pos 0)) (pos 32767)
-coordinates-passed points w = within-each (negsuc 32767) (pos 32767) points (not-false (every isCoordinate points) (w .fails 0))
+-- The points' shape: 1, 2 and 3 were tested.
+pub record PointsShaped (k n : ℕ) (points : List ℤ) : Type 0 where
+  pub dimension : (1 ≤ k) × (k ≤ 4)
+  pub many : n ≤ 65535
+  pub size : length points ≡ k * n
 
--- A stock of the right shape whose coordinates were passed is tested.
-pub stock-tested : (s : Stock) → (1 ≤ s .k) × (s .k ≤ 4) → s .n ≤ 65535 → length (s .points) ≡ s .k * s .n → Passed (coordinateRefusals (s .points))
-    → TestedPoints s
-stock-tested s dimension many size w = record {
-  some = dimension .0;
-  few = dimension .1;
-  many = many;
-  size = size;
-  each = λ p e. record { ranges = λ i l. coordinates-passed (s .points) w _ (coordinate-place (s .k) (s .n) (s .points) size (stock-under s p e) l) };
+pub shape-passed : (k n : ℕ) (points : List ℤ) → Passed (shapeRefusals k n points) → PointsShaped k n points
+shape-passed k n points w =
+    let a = passed-parts (dimensionRefusals k) (sizeRefusals n ++ lengthRefusals (k * n) points) w in
+    let b = passed-parts (sizeRefusals n) (lengthRefusals (k * n) points) (a .1) in
+    record { dimension = dimension-passed k (a .0); many = size-passed n (b .0); size = length-passed (k * n) points (b .1) }
+
+-- A live byte for each number, each 0 or 1.
+pub record LiveTested (n : ℕ) (live : List ℕ) : Type 0 where
+  pub bytes : length live ≡ n
+  pub each-byte : every isLiveByte live ≡ true
+
+pub live-passed : (n : ℕ) (live : List ℕ) → Passed (liveRefusals n live) → LiveTested n live
+live-passed n live w = record {
+  bytes = eqb-true (length live) n (not-false (eqb (length live) n) (w .fails 0));
+  each-byte = not-false (every isLiveByte live) (w .fails 1);
 }
 
--- The stock's shape: 1, 2 and 3 were tested.
-pub record StockShaped (s : Stock) : Type 0 where
-  pub dimension : (1 ≤ s .k) × (s .k ≤ 4)
-  pub many : s .n ≤ 65535
-  pub size : length (s .points) ≡ s .k * s .n
+pub live-coordinates-passed : (s : Stock) → Passed (liveCoordinateRefusals s) → membersInRange (s .k) (pointOf s) (belongsTo s) (s .n) ≡ true
+live-coordinates-passed s w = not-false (membersInRange (s .k) (pointOf s) (belongsTo s) (s .n)) (w .fails 0)
 
-pub stock-shape : (s : Stock) → Passed (stockRefusals s) → StockShaped s
-stock-shape s w =
-    let a = passed-parts (dimensionRefusals (s .k)) (sizeRefusals (s .n) ++ lengthRefusals (s .k * s .n) (s .points)) w in
-    let b = passed-parts (sizeRefusals (s .n)) (lengthRefusals (s .k * s .n) (s .points)) (a .1) in
-    record {
-      dimension = dimension-passed (s .k) (a .0);
-      many = size-passed (s .n) (b .0);
-      size = length-passed (s .k * s .n) (s .points) (b .1);
-    }
+-- A stock of the right shape whose live numbers' coordinates were passed is tested.
+pub stock-tested : (s : Stock) → PointsShaped (s .k) (s .n) (s .points) → length (s .live) ≡ s .n → Passed (liveCoordinateRefusals s) → TestedPoints s
+stock-tested s shaped bytes w = record {
+  some = shaped .dimension .0;
+  few = shaped .dimension .1;
+  many = shaped .many;
+  size = shaped .size;
+  bytes = bytes;
+  each = λ p e.
+      point-ranges (s .k) (pointOf s p)
+      (in-range-each (s .k) (pointOf s) (belongsTo s) (s .n) (live-coordinates-passed s w) p (stock-under s p e) e);
+}
 
-pub stock-passed : (s : Stock) → Passed (stockRefusals s) → Passed (coordinateRefusals (s .points)) → TestedPoints s
-stock-passed s w c = let p = stock-shape s w in stock-tested s (p .dimension) (p .many) (p .size) c
+pub stock-passed : (s : Stock) → Passed (stockRefusals s) → Passed (liveCoordinateRefusals s) → TestedPoints s
+stock-passed s w c =
+    let p = passed-parts (shapeRefusals (s .k) (s .n) (s .points)) (liveRefusals (s .n) (s .live)) w in
+    stock-tested s (shape-passed (s .k) (s .n) (s .points) (p .0)) (live-passed (s .n) (s .live) (p .1) .bytes) c
 
 pub face-count-passed : (h : ℕ) → Passed (faceCountRefusals h) → h ≤ 32
 face-count-passed h w = ltb-false 32 h (w .fails 0)
@@ -195,24 +206,6 @@ faces-passed k f w =
 
 pub tree-passed : (s : Stock) (o : Order) → Passed (treeRefusals s o) → isShelf s o ≡ true
 tree-passed s o w = not-false (isShelf s o) (w .fails 0)
-
-pub number-passed : (s : Stock) (p : ℕ) → Passed (numberRefusals s p) → belongsTo s p ≡ true
-number-passed s p w = not-false (belongsTo s p) (w .fails 0)
-
--- A live byte for each number, each 0 or 1.
-pub record LiveTested (n : ℕ) (live : List ℕ) : Type 0 where
-  pub bytes : length live ≡ n
-  pub each-byte : every isLiveByte live ≡ true
-
-pub live-passed : (n : ℕ) (live : List ℕ) → Passed (liveRefusals n live) → LiveTested n live
-live-passed n live w = record {
-  bytes = eqb-true (length live) n (not-false (eqb (length live) n) (w .fails 0));
-  each-byte = not-false (every isLiveByte live) (w .fails 1);
-}
-
-pub live-coordinates-passed : (k n : ℕ) (points : List ℤ) (live : List ℕ) → Passed (liveCoordinateRefusals k n points live)
-    → membersInRange k (coord k points) (isLive n live) n ≡ true
-live-coordinates-passed k n points live w = not-false (membersInRange k (coord k points) (isLive n live) n) (w .fails 0)
 
 pub full-passed : (n v : ℕ) → Passed (fullRefusals n v) → v ≢ n
 full-passed n v w = eqb-false v n (w .fails 0)

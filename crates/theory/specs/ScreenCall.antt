@@ -59,7 +59,7 @@ module _ (s : Stock) (o : Order) (f : Faces) where
   unfolding screenCode listCode firstOf
   screen-code-is-list-code list room = rw (le-ltb (length list) (slotsOf s) room)
 
--- Orders that agree in their first n slots are screened alike.
+-- Orders that agree in their first v slots are screened alike.
 pub screen-reads : (s : Stock) (o q : Order) (f : Faces) → shelfRun s o ≡ shelfRun s q → screenAnswer s o f ≡ screenAnswer s q f
 unfolding screenAnswer screenCode
 screen-reads s o q f e = rw (room-same (slotsOf s) (o .slots) (q .slots) e, e)

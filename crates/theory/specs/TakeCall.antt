@@ -16,7 +16,7 @@ use Rattle.terms.specs.Live.{isLive, liveCount, lowestDead, takenLive}
 use Rattle.terms.specs.LivePoints.{membersInRange, takenPoints}
 use Rattle.terms.specs.Refusals.{
   Refusal,
-  stockRefusals,
+  shapeRefusals,
   lengthRefusals,
   liveRefusals,
   liveCoordinateRefusals,
@@ -30,8 +30,8 @@ use Rattle.theory.specs.Flags.{true-and, not-false}
 use Rattle.theory.specs.Tested.{point-places}
 use Rattle.theory.specs.FirstRefusal.{FirstHeld, noZero, first-held, passed-parts, if-refused}
 use Rattle.theory.specs.RefusalsPassed.{
-  StockShaped,
-  stock-shape,
+  PointsShaped,
+  shape-passed,
   length-passed,
   LiveTested,
   live-passed,
@@ -44,7 +44,7 @@ use Rattle.theory.specs.NeverRefused.{neverHolds, never-answered}
 
 -- What the take call has tested: the stock's shape, a point of k, the live bytes, coordinates in range, and that a number is dead.
 pub record TakePassed (k n : ℕ) (points : List ℤ) (live : List ℕ) (point : List ℤ) : Type 0 where
-  pub shaped : StockShaped (stock k n points)
+  pub shaped : PointsShaped k n points
   pub point-size : length point ≡ k
   pub live-tested : LiveTested n live
   pub ranges : membersInRange k (coord k points) (isLive n live) n ≡ true
@@ -61,19 +61,19 @@ module _ (k n : ℕ) (points : List ℤ) (live : List ℕ) (point : List ℤ) wh
   take-passed e =
       let L : List Refusal = lengthRefusals k point in
       let B : List Refusal = liveRefusals n live in
-      let C : List Refusal = liveCoordinateRefusals k n points live in
+      let C : List Refusal = liveCoordinateRefusals (stock k n points live) in
       let P : List Refusal = coordinateRefusals point in
       let F : List Refusal = fullRefusals n (liveCount n live) in
-      let a = passed-parts (stockRefusals (stock k n points)) (L ++ B ++ C ++ P ++ F) (take-first .done e) in
+      let a = passed-parts (shapeRefusals k n points) (L ++ B ++ C ++ P ++ F) (take-first .done e) in
       let b = passed-parts L (B ++ C ++ P ++ F) (a .1) in
       let c = passed-parts B (C ++ P ++ F) (b .1) in
       let d = passed-parts C (P ++ F) (c .1) in
       let f = passed-parts P F (d .1) in
       record {
-        shaped = stock-shape (stock k n points) (a .0);
+        shaped = shape-passed k n points (a .0);
         point-size = length-passed k point (b .0);
         live-tested = live-passed n live (c .0);
-        ranges = live-coordinates-passed k n points live (d .0);
+        ranges = live-coordinates-passed (stock k n points live) (d .0);
         point-ranges = not-false (every isCoordinate point) (f .0 .fails 0);
         dead = some-dead n live (full-passed n (liveCount n live) (f .1));
       }

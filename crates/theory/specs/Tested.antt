@@ -24,12 +24,13 @@ pub record Between (least z greatest : ℤ) : Type 0 where
 pub record Coordinates (k : ℕ) (x : ℕ → ℤ) : Type 0 where
   pub ranges : (d : ℕ) → d < k → Between (negsuc 32767) (x d) (pos 32767)
 
--- The stock, whose 1, 2, 3 and 5 were tested: the points of the numbers that belong are in range.
+-- The stock, whose 1, 2, 3, 15 and 5 were tested: there is a live byte for each number, and the points of the numbers that belong are in range.
 pub record TestedPoints (s : Stock) : Type 0 where
   pub some : 1 ≤ s .k
   pub few : s .k ≤ 4
   pub many : s .n ≤ 65535
   pub size : length (s .points) ≡ s .k * s .n
+  pub bytes : length (s .live) ≡ s .n
   pub each : (p : ℕ) → belongsTo s p ≡ true → Coordinates (s .k) (pointOf s p)
 
 -- Where point p's coordinate d lies.

@@ -1,4 +1,4 @@
--- A tree holds no number twice, so n slots that are a tree and hold only numbers that belong hold each of them once.
+-- A tree holds no number twice, so slots that are a tree and hold only numbers that belong hold each of them once.
 -- A number of the left branch comes before the node and one of the right branch after it, so no number stands in two of the three parts.
 use mathlib.Core.Path.{_≡_, refl, sym, ap, _∙_}
 use mathlib.Core.Bool.{Bool, true, false, _&&_}
@@ -21,7 +21,8 @@ use Rattle.theory.specs.Counting.{Distinct, at-every, bit-le}
 use Rattle.theory.specs.RunParts.{Parts, parts, count-run}
 use Rattle.theory.specs.BeforeIsAnOrder.{before-asym, before-self}
 use Rattle.theory.specs.SameByNumber.{count-none}
-use Rattle.theory.specs.EachNumberOnce.{BelongBelow, each-once, distinct-each, stock-under, stock-members}
+use Rattle.theory.specs.EachNumberOnce.{BelongBelow, each-once, distinct-each}
+use Rattle.theory.specs.StockNumbers.{stock-under, stock-members}
 
 module _ {f k : ℕ} {at : ℕ → ℕ → ℤ} {j x : ℕ} {xs : List ℕ} (w : Parts f k at j (x ∷ xs)) (v : ℕ) where
   abbrev n : ℕ
@@ -77,7 +78,7 @@ tree-test k at belongs m run under size = same-test
     let p = and-true (every belongs run) e in
     true-and (distinct-each belongs m under size (p .0) (tree-distinct (length run) k at 0 run (p .1))) (p .1))
 
--- "A check says yes (0) exactly for that order": of n slots it is asked that their numbers are below n and that they are a tree.
+-- "A check says yes (0) exactly for that order": of v slots it is asked that their numbers belong and that they are a tree.
 pub shelf-test : (s : Stock) (o : Order) → slotsOf s ≤ length (o .slots)
     → isShelf s o ≡ every (belongsTo s) (shelfRun s o) && treeRun (slotsOf s) (s .k) (pointOf s) 0 (shelfRun s o)
 shelf-test s o room =

@@ -20,7 +20,8 @@ use Rattle.theory.specs.Flags.{clash, and-true, and-yes, and-no}
 use Rattle.theory.specs.Counting.{Same, same-sym, same-length, count-yes, count-no, count-same, count-both-le}
 use Rattle.theory.specs.RunParts.{Parts, parts, left-length, whole-run, count-run}
 use Rattle.theory.specs.BeforeIsAnOrder.{before-trans, before-asym, before-self, before-total}
-use Rattle.theory.specs.EachNumberOnce.{BelongBelow, each-same, stock-under}
+use Rattle.theory.specs.EachNumberOnce.{BelongBelow, each-same}
+use Rattle.theory.specs.StockNumbers.{stock-under}
 
 -- A second test that all of a run pass changes no count, and one that none passes leaves nothing.
 passed-count : (test side : ℕ → Bool) (run : List ℕ) → ((i : ℕ) → i < length run → side (getD run i 0) ≡ true)

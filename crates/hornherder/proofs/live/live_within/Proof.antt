@@ -11,9 +11,8 @@ all-within-requires c κs = search needs
 
 returns : tie.Need-returns
 returns c =
-    let b = c .before .before .before in
-    let a = b .args in
-    sym (blind-in-range (a .k) (a .points .now) (a .n) (b .pre .size) (isLive (a .n) (a .live .now)) (sym (c .before .all-within .ensures) ∙ c .if1 .taken))
+    let a = c .before .before .before .args in
+    sym (blind-in-range (a .k) (a .points .now) (isLive (a .n) (a .live .now)) (a .n) (sym (c .before .all-within .ensures) ∙ c .if1 .taken))
 
 each-live-within-requires : tie.Need-each-live-within-requires
 each-live-within-requires c κs = search needs

@@ -6,7 +6,7 @@ use Rattle.whole.specs.Fits.{sfits-mag}
 use Rattle.terms.specs.Lent.{faces}
 use Rattle.theory.specs.PlaceCall.{PlacePassed}
 use Rattle.region.specs.Measured.{measured-small}
-use Rattle.descent.specs.Points.{has-point}
+use Rattle.descent.specs.Points.{lone-coord}
 use Rattle.hornherder.specs.PlaceOutcome.{place-tested, place-refused, place-done}
 use Rattle.hornherder.proofs.place.hornherder_place.Statement.{statement}
 use Rattle.hornherder.proofs.place.hornherder_place.Tie as tie
@@ -22,12 +22,14 @@ passed : (c : tie.Else1) → let a = c .before .before .before .args in PlacePas
 passed c = place-tested _ _ _ (c .before .place-refusal .ensures) (c .if1 .left)
 
 point-at-requires : tie.Need-point-at-requires
-point-at-requires c κs = has-point (passed c .tested) refl
+point-at-requires c κs =
+    let t = passed c in
+    record { few = t .dimension .1; room = omega (arith, t .size); ranges = rw lone-coord (t .ranges) }
 
 measure-requires : tie.Need-measure-requires
 measure-requires c κs =
     let t = passed (c .before) in
-    (c .point-at .ensures .ranges, record { few = t .tested .few; tested = rw (t .faced .offsets-size) (t .faced) })
+    (c .point-at .ensures .ranges, record { few = t .dimension .1; tested = rw (t .faced .offsets-size) (t .faced) })
 
 one-if-requires : tie.Need-one-if-requires
 one-if-requires c κs = tt

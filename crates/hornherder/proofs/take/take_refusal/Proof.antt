@@ -2,29 +2,28 @@
 use mathlib.Core.Path.{refl}
 use mathlib.Core.List.{List, _++_}
 use Prim.Native.Nat.{ℕ}
-use Rattle.terms.specs.Lent.{stock}
-use Rattle.terms.specs.Refusals.{Refusal, stockRefusals, lengthRefusals, liveRefusals}
+use Rattle.terms.specs.Refusals.{Refusal, shapeRefusals, lengthRefusals, liveRefusals}
 use Rattle.theory.specs.FirstRefusal.{noZero}
-use Rattle.theory.specs.RefusalsPassed.{StockShaped, stock-shape, live-passed}
+use Rattle.theory.specs.RefusalsPassed.{PointsShaped, shape-passed, live-passed}
 use Rattle.hornherder.specs.First.{First, first-stops, first-passed, first-goes-on}
 use Rattle.hornherder.proofs.take.take_refusal.Statement.{statement}
 use Rattle.hornherder.proofs.take.take_refusal.Tie as tie
 
-stock-refusal-requires : tie.Need-stock-refusal-requires
-stock-refusal-requires c κs = tt
+shape-refusal-requires : tie.Need-shape-refusal-requires
+shape-refusal-requires c κs = tt
 
 returns : tie.Need-returns
-returns c = first-stops _ (c .before .stock-refusal .ensures) (c .if1 .taken)
+returns c = first-stops _ (c .before .shape-refusal .ensures) (c .if1 .taken)
 
 -- Each group that was passed leaves the number to those after it.
 after-shape : {ys : List Refusal} {d : ℕ} (c : tie.Else1) → let a = c .before .before .before .args in First ys d
-    → First (stockRefusals (stock (a .k) (a .n) (a .points .now)) ++ ys) d
+    → First (shapeRefusals (a .k) (a .n) (a .points .now) ++ ys) d
 unfolding noZero
-after-shape c f = first-goes-on refl (c .before .stock-refusal .ensures) (c .if1 .left) f
+after-shape c f = first-goes-on refl (c .before .shape-refusal .ensures) (c .if1 .left) f
 
-shaped : (c : tie.Else1) → let a = c .before .before .before .args in StockShaped (stock (a .k) (a .n) (a .points .now))
+shaped : (c : tie.Else1) → let a = c .before .before .before .args in PointsShaped (a .k) (a .n) (a .points .now)
 unfolding noZero
-shaped c = stock-shape _ (first-passed refl (c .before .stock-refusal .ensures) (c .if1 .left))
+shaped c = shape-passed _ _ _ (first-passed refl (c .before .shape-refusal .ensures) (c .if1 .left))
 
 length-refusal-requires : tie.Need-length-refusal-requires
 length-refusal-requires c κs = tt
@@ -33,7 +32,7 @@ returns-2 : tie.Need-returns-2
 returns-2 c = after-shape (c .before .before) (first-stops _ (c .before .length-refusal .ensures) (c .if2 .taken))
 
 after-length : {ys : List Refusal} {d : ℕ} (c : tie.Else2) → let a = c .before .before .before .before .before .args in First ys d
-    → First (stockRefusals (stock (a .k) (a .n) (a .points .now)) ++ lengthRefusals (a .k) (a .point .now) ++ ys) d
+    → First (shapeRefusals (a .k) (a .n) (a .points .now) ++ lengthRefusals (a .k) (a .point .now) ++ ys) d
 unfolding noZero
 after-length c f = after-shape (c .before .before) (first-goes-on refl (c .before .length-refusal .ensures) (c .if2 .left) f)
 
@@ -44,7 +43,7 @@ returns-3 : tie.Need-returns-3
 returns-3 c = after-length (c .before .before .before) (first-stops _ (c .before .before .live-refusal .ensures .first) (c .if3 .taken))
 
 after-bytes : {ys : List Refusal} {d : ℕ} (c : tie.Else3) → let a = c .before .before .before .before .before .before .before .before .args in First ys d
-    → First (stockRefusals (stock (a .k) (a .n) (a .points .now)) ++ lengthRefusals (a .k) (a .point .now) ++ liveRefusals (a .n) (a .live .now) ++ ys) d
+    → First (shapeRefusals (a .k) (a .n) (a .points .now) ++ lengthRefusals (a .k) (a .point .now) ++ liveRefusals (a .n) (a .live .now) ++ ys) d
 unfolding noZero
 after-bytes c f = after-length (c .before .before .before) (first-goes-on refl (c .before .before .live-refusal .ensures .first) (c .if3 .left) f)
 
@@ -79,7 +78,7 @@ returns-6 c =
     let o = c .before in
     let e = o .before .before in
     let b = e .before .before in
-    let many = b .before .before .live-refusal .ensures .live-many (b .if3 .left) in
+    let many = b .before .before .live-refusal .ensures .many (b .if3 .left) in
     after-bytes b
     (first-goes-on refl (e .before .live-coordinate-refusal .ensures) (e .if4 .left)
     (first-goes-on refl (o .before .coordinate-refusal .ensures) (o .if5 .left) (rw many at (c .full-refusal .ensures))))
@@ -88,7 +87,7 @@ pub take-refusal-spec : {M : Type 1} → statement M
 take-refusal-spec =
     tie.close
     (tie.spec
-    stock-refusal-requires
+    shape-refusal-requires
     returns
     length-refusal-requires
     returns-2

@@ -2,7 +2,7 @@
 use native.Mathlib.Nat.{sub-zero}
 use native.Mathlib.Omega.{arith}
 use borrow.Author.Needs.{needs}
-use Rattle.shelf.specs.Answering.{Sizes, sizes, answer-ten, answer-shelved}
+use Rattle.shelf.specs.Answering.{Sizes, sizes, ones-live, answer-ten, answer-shelved}
 use Rattle.shelf.proofs.answer.answer.Statement.{statement}
 use Rattle.shelf.proofs.answer.answer.Tie as tie
 
@@ -55,7 +55,7 @@ part-build-shelf-start-2 : tie.Need-part-build-shelf-start-2
 part-build-shelf-start-2 c = search needs
 
 part-build-shelf-end-2 : tie.Need-part-build-shelf-end-2
-part-build-shelf-end-2 c = omega (arith, said (c .before .before .before) .components)
+part-build-shelf-end-2 c = omega (arith, said (c .before .before .before) .points)
 
 sub-build-shelf-3 : tie.Need-sub-build-shelf-3
 sub-build-shelf-3 c = search needs
@@ -64,7 +64,7 @@ part-build-shelf-start-3 : tie.Need-part-build-shelf-start-3
 part-build-shelf-start-3 c = search needs
 
 part-build-shelf-end-3 : tie.Need-part-build-shelf-end-3
-part-build-shelf-end-3 c = omega (arith, said (c .before .before .before .before .before) .faces)
+part-build-shelf-end-3 c = omega (arith, said (c .before .before .before .before .before) .components)
 
 sub-build-shelf-4 : tie.Need-sub-build-shelf-4
 sub-build-shelf-4 c = search needs
@@ -75,15 +75,26 @@ part-build-shelf-start-4 c = search needs
 part-build-shelf-end-4 : tie.Need-part-build-shelf-end-4
 part-build-shelf-end-4 c = omega (arith, said (c .before .before .before .before .before .before .before) .faces)
 
+sub-build-shelf-5 : tie.Need-sub-build-shelf-5
+sub-build-shelf-5 c = search needs
+
+part-build-shelf-start-5 : tie.Need-part-build-shelf-start-5
+part-build-shelf-start-5 c = search needs
+
+part-build-shelf-end-5 : tie.Need-part-build-shelf-end-5
+part-build-shelf-end-5 c = omega (arith, said (c .before .before .before .before .before .before .before .before .before) .faces)
+
 build-shelf-requires : tie.Need-build-shelf-requires
-build-shelf-requires c κs = omega (arith, said (c .before .before .before .before .before .before .before .before .before) .points)
+build-shelf-requires c κs =
+    let few = said (c .before .before .before .before .before .before .before .before .before .before .before) .points in
+    (few, (simp sub-zero (ones-live _ few), search needs))
 
 same-length-2 : tie.Need-same-length-2
 same-length-2 c = search needs
 
 returns-2 : tie.Need-returns-2
 returns-2 c =
-    let no = c .before .before .before .before .before .before .before .before .before .before .before .before in
+    let no = c .before .before .before .before .before .before .before .before .before .before .before .before .before .before in
     answer-shelved (no .before .before .before .before .before .read .ensures) (no .if1 .left) (simp sub-zero at (c .before .before .build-shelf .ensures))
 
 pub answer-spec : {M : Type 1} → statement M
@@ -111,6 +122,9 @@ answer-spec =
     sub-build-shelf-4
     part-build-shelf-start-4
     part-build-shelf-end-4
+    sub-build-shelf-5
+    part-build-shelf-start-5
+    part-build-shelf-end-5
     build-shelf-requires
     same-length-2
     returns-2)

@@ -34,7 +34,7 @@ returns-2 : tie.Need-returns-2
 returns-2 c =
     let call = c .before .before .before .before .before .before .before .before in
     listing-done _ (search needs) (call .hornherder-list .ensures .answered) (call .hornherder-list .ensures .written) (c .before .before .before .before .before .if1 .left)
-    (c .before .before .write-answer .ensures)
+    (rw (c .before .before .before .before .before .before .before .before .before .before .before .before .before .before .pre .1 .0) (c .before .before .write-answer .ensures))
 
 pub list-shelf-spec : {M : Type 1} → statement M
 list-shelf-spec =

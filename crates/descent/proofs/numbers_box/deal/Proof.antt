@@ -7,9 +7,9 @@ use mir.Syntax.{w32}
 use mir.Facts.{toZ-ofZ}
 use Rattle.whole.specs.Order.{lesser, greater}
 use Rattle.terms.specs.Points.{lone}
-use Rattle.descent.specs.RootBox.{Dealt, dealt-more}
-use Rattle.descent.proofs.root.deal.Statement.{statement}
-use Rattle.descent.proofs.root.deal.Tie as tie
+use Rattle.descent.specs.NumbersBox.{Dealt, dealt-more}
+use Rattle.descent.proofs.numbers_box.deal.Statement.{statement}
+use Rattle.descent.proofs.numbers_box.deal.Tie as tie
 
 abbrev Inv-loop : tie.InvT-loop
 Inv-loop points from count least₀ greatest₀ j₀ least greatest j = (j ≤ count) × Dealt 24 (lone points) (lone points) (from + j) least greatest

@@ -1,7 +1,7 @@
 -- A coordinate that fits is read back as it is.
 use mir.Facts.{toZ-ofZ}
-use Rattle.descent.proofs.root.choose.Statement.{statement}
-use Rattle.descent.proofs.root.choose.Tie as tie
+use Rattle.descent.proofs.numbers_box.choose.Statement.{statement}
+use Rattle.descent.proofs.numbers_box.choose.Tie as tie
 
 returns : tie.Need-returns
 returns c = rw (c .if1 .taken) (toZ-ofZ (c .before .fits .x))

@@ -4,8 +4,8 @@ use borrow.Author.Needs.{needs}
 use Rattle.theory.specs.LiveNumbers.{live-under}
 use Rattle.theory.specs.WithdrawCall.{WithdrawPassed}
 use Rattle.hornherder.specs.WithdrawOutcome.{withdraw-tested, withdraw-refused, withdraw-done}
-use Rattle.hornherder.proofs.withdraw.withdraw.Statement.{statement}
-use Rattle.hornherder.proofs.withdraw.withdraw.Tie as tie
+use Rattle.hornherder.proofs.withdraw.hornherder_withdraw.Statement.{statement}
+use Rattle.hornherder.proofs.withdraw.hornherder_withdraw.Tie as tie
 
 withdraw-refusal-requires : tie.Need-withdraw-refusal-requires
 withdraw-refusal-requires c κs = tt
@@ -32,5 +32,5 @@ same-length-2 c = search needs
 returns-2 : tie.Need-returns-2
 returns-2 c = withdraw-done _ _ _ (c .before .withdraw-refusal .ensures) (c .if1 .left)
 
-pub withdraw-spec : {M : Type 1} → statement M
-withdraw-spec = tie.close (tie.spec withdraw-refusal-requires same-length returns slice-write-live same-length-2 returns-2)
+pub hornherder-withdraw-spec : {M : Type 1} → statement M
+hornherder-withdraw-spec = tie.close (tie.spec withdraw-refusal-requires same-length returns slice-write-live same-length-2 returns-2)

@@ -1,4 +1,4 @@
--- The root box in one pass. The coordinates are dealt to lanes in turn, as cards are, and a lane keeps the least and the greatest of what it was dealt.
+-- The root box of all numbers in one pass. The coordinates are dealt to lanes in turn, as cards are, and a lane keeps the least and the greatest of what it was dealt.
 -- Since the lanes are a multiple of k, dealing them to k places deals the coordinates to k places, one for each dimension.
 use mathlib.Core.Path.{_≡_, sym, ap, _∙_}
 use mathlib.Core.List.{List}
@@ -11,25 +11,22 @@ use lib.Seq.{getD-set-same}
 use lib.IntN.{ℤ, pos, negsuc}
 use lib.Signed.{_≤ℤ_}
 use borrow.Author.Count.{below-more}
-use borrow.Author.Tests.{lt-ltb}
 use Rattle.whole.specs.Order.{lesser, greater}
 use Rattle.whole.specs.Choices.{atLeast, Choice, least-choice, greatest-choice}
 use Rattle.terms.specs.Tests.{rising}
-use Rattle.terms.specs.Lent.{Stock, stock}
-use Rattle.terms.specs.Points.{coord, lone, pointOf, belongsTo}
-use Rattle.terms.specs.Tree.{members}
-use Rattle.terms.specs.Box.{Box, rootBox}
+use Rattle.terms.specs.Points.{coord, lone}
 use Rattle.theory.specs.Stores.{stored}
-use Rattle.theory.specs.Tested.{TestedPoints, coordinate-place}
-use Rattle.theory.specs.RisingNumbers.{length-rising, rising-at, members-shelf}
-use Rattle.theory.specs.Boxes.{Alike}
-use Rattle.descent.specs.Points.{has-point}
+use Rattle.theory.specs.Tested.{coordinate-place}
+use Rattle.theory.specs.RisingNumbers.{length-rising, rising-at}
 use Rattle.descent.specs.Standing.{Known}
-use Rattle.descent.specs.SlotsBox.{Foremost, foremost-low, foremost-high}
+use Rattle.descent.specs.SlotsBox.{SlotsBoxed, Foremost, foremost-low, foremost-high}
 
--- Where a number belongs to the stock, the box is the root box of those that do.
-pub record RootBoxed (s : Stock) (b : Box) : Type 0 where
-  pub alike : 0 < length (members (belongsTo s) (s .n)) → Alike (s .k) b (rootBox (pointOf s) (members (belongsTo s) (s .n)))
+-- Each of m numbers has its point, and no more is lent.
+pub record NumbersKnown (k m : ℕ) (points : List ℤ) : Type 0 where
+  pub some : 1 ≤ k
+  pub few : k ≤ 4
+  pub size : length points ≡ k * m
+  pub known : Known k points (rising 0 m)
 
 -- The first i values are dealt to w lanes in turn. What a lane keeps comes before each value dealt to it, and after all that come before those and the start.
 pub record Row (le : ℤ → ℤ → Type 0) (w : ℕ) (value : ℕ → ℤ) (start : ℤ) (i : ℕ) (row : List ℤ) : Type 0 where
@@ -100,7 +97,7 @@ module _ {w : ℕ} {low high : ℕ → ℤ} {i : ℕ} {least greatest : List ℤ
   }
 
 -- Since 24 is a multiple of each k, a lane has coordinates of one dimension.
-pub lane-dimension : {k m : ℕ} {points : List ℤ} → TestedPoints (stock k m points) → (u : ℕ) → u % 24 % k ≡ u % k
+pub lane-dimension : {k m : ℕ} {points : List ℤ} → NumbersKnown k m points → (u : ℕ) → u % 24 % k ≡ u % k
 lane-dimension {k} t u = go k (t .some) (t .few)
   where
     go : (k : ℕ) → 1 ≤ k → k ≤ 4 → u % 24 % k ≡ u % k
@@ -111,7 +108,7 @@ lane-dimension {k} t u = go k (t .some) (t .few)
     go (suc (suc (suc (suc zero)))) some few = omega arith
     go (suc (suc (suc (suc (suc k))))) some few = absurd (omega arith)
 
-module _ {k m : ℕ} {points : List ℤ} (some : 0 < m) (t : TestedPoints (stock k m points)) where
+module _ {k m : ℕ} {points : List ℤ} (t : NumbersKnown k m points) where
   -- Place p of the numbers has number p.
   number : (p : ℕ) → p < length (rising 0 m) → getD (rising 0 m) p 0 ≡ p
   number p n = omega (arith, rising-at 0 m p 0 (omega (arith, length-rising 0 m)))
@@ -134,20 +131,12 @@ module _ {k m : ℕ} {points : List ℤ} (some : 0 < m) (t : TestedPoints (stock
           let place : u / k * k + d ≡ u = rw e at (div-add-mod' u k) in
           rw place at (rw (number (u / k) inside) at (all (u / k) inside))
 
-  numbers-known : Known k points (rising 0 m)
-  numbers-known = record { each = λ p n. rw (number p n) (has-point t (lt-ltb p m (omega (arith, length-rising 0 m)))) }
-
   -- All coordinates dealt to k places are the root box.
-  pub dealt-root : {low high : List ℤ} → Dealt k (lone points) (lone points) (length points) low high
-      → Alike k (record { low = lone low; high = lone high }) (rootBox (coord k points) (rising 0 m))
-  dealt-root r =
-      let slot : 0 < length (rising 0 m) = omega (arith, length-rising 0 m) in
-      record {
-        lows = λ d l. foremost-low numbers-known slot l (row-foremost l (r .lows));
-        highs = λ d l. foremost-high numbers-known slot l (row-foremost l (r .highs));
-      }
-
--- All numbers below m belong.
-pub dealt-all : {k m : ℕ} {points low high : List ℤ} → TestedPoints (stock k m points) → Dealt k (lone points) (lone points) (length points) low high
-    → RootBoxed (stock k m points) (record { low = lone low; high = lone high })
-dealt-all {m = m} t r = record { alike = rw (members-shelf m) (λ l. dealt-root (omega (arith, length-rising 0 m)) t r) }
+  pub dealt-all : {low high : List ℤ} → Dealt k (lone points) (lone points) (length points) low high
+      → SlotsBoxed k points (rising 0 m) (record { low = lone low; high = lone high })
+  dealt-all r = record {
+    alike = λ some. record {
+      lows = λ d l. foremost-low (t .known) some l (row-foremost l (r .lows));
+      highs = λ d l. foremost-high (t .known) some l (row-foremost l (r .highs));
+    };
+  }

@@ -4,9 +4,9 @@ use Prim.Native.Nat.{_+_, _-_, _*_, _/_, _≤_}
 use native.Mathlib.Omega.{arith}
 use lib.ListN.{length}
 use Rattle.terms.specs.Points.{lone}
-use Rattle.descent.specs.RootBox.{Dealt, dealt-none}
-use Rattle.descent.proofs.root.deal_all.Statement.{statement}
-use Rattle.descent.proofs.root.deal_all.Tie as tie
+use Rattle.descent.specs.NumbersBox.{Dealt, dealt-none}
+use Rattle.descent.proofs.numbers_box.deal_all.Statement.{statement}
+use Rattle.descent.proofs.numbers_box.deal_all.Tie as tie
 
 abbrev Inv-loop : tie.InvT-loop
 Inv-loop points rounds lanes₀ t₀ lanes t = (t ≤ rounds) × Dealt 24 (lone points) (lone points) (24 * t) (lanes .least) (lanes .greatest)

@@ -6,8 +6,8 @@ use borrow.Author.Needs.{needs}
 use Rattle.theory.specs.TakeCall.{TakePassed}
 use Rattle.hornherder.specs.Live.{LivePoints, points-few, point-room}
 use Rattle.hornherder.specs.TakeOutcome.{take-tested, take-refused, take-done}
-use Rattle.hornherder.proofs.take.take.Statement.{statement}
-use Rattle.hornherder.proofs.take.take.Tie as tie
+use Rattle.hornherder.proofs.take.hornherder_take.Statement.{statement}
+use Rattle.hornherder.proofs.take.hornherder_take.Tie as tie
 
 take-refusal-requires : tie.Need-take-refusal-requires
 take-refusal-requires c κs = tt
@@ -77,8 +77,8 @@ returns-2 c =
     let e = b .before .before in
     take-done _ _ _ _ _ (e .before .take-refusal .ensures) (e .if1 .left) (b .lowest-dead .ensures) (c .before .write-coordinates .ensures)
 
-pub take-spec : {M : Type 1} → statement M
-take-spec =
+pub hornherder-take-spec : {M : Type 1} → statement M
+hornherder-take-spec =
     tie.close
     (tie.spec
     take-refusal-requires
