@@ -1,8 +1,8 @@
-//! The take and the withdraw call, beside the same tests and the same change by hand, and beside the check call.
+//! The take and the withdraw call, beside the same tests and the same change by hand, and beside the arrange call on the tree.
 
 use crate::clock::{best_of, Contender};
 use crate::library;
-use crate::measured::{Call, Measured};
+use crate::measured::{Call, Measured, CHECK};
 use crate::stock::{Stock, GREATEST, LEAST};
 
 /// Whether live bytes are as they must be. All are looked at, which lets the compiler take many at a time.
@@ -78,7 +78,7 @@ pub fn measure(stock: &Stock, order: &[u32], rounds: usize) -> Measured {
             let done = withdraw(n, last as u32, &mut d.live);
             d.live[last] = u8::from(done);
         }),
-        Contender::new("check", || library::check(stock, order)),
+        Contender::new(CHECK, || library::check(stock, order)),
     ];
     Measured {
         call: Call::Changes,

@@ -2,7 +2,7 @@
 
 use crate::clock::{best_of, Contender};
 use crate::library::{self, Listing};
-use crate::measured::{Asked, Call, Measured};
+use crate::measured::{Asked, Call, Measured, CHECK};
 use crate::numbers::Numbers;
 use crate::region::{margin, Region};
 use crate::stock::Stock;
@@ -50,7 +50,7 @@ fn mean(all: &[Times]) -> Times {
         .collect()
 }
 
-/// Measures the explain call for each of the numbers, and every time the list and the check call as well and the root box by hand, which follows
+/// Measures the explain call for each of the numbers, and every time the list and the check as well and the root box by hand, which follows
 /// a check, as it does within the call. The mean of each counts.
 pub fn measure(
     stock: &Stock,
@@ -67,7 +67,7 @@ pub fn measure(
         let contenders = vec![
             Contender::new("explain", || library::explain(stock, order, region, number)),
             Contender::new("list", || library::list(stock, order, region, &mut list)),
-            Contender::new("check", check),
+            Contender::new(CHECK, check),
             Contender::after("root box by hand", check, || root_rows(stock)),
         ];
         best_of(rounds, contenders)

@@ -4,10 +4,11 @@ use crate::builder;
 use crate::builds;
 use crate::clock::{best_of, Contender};
 use crate::library::{self, Listing};
-use crate::measured::{Asked, Call, Measured};
+use crate::measured::{Asked, Call, Measured, CHECK, HALF_CHECK};
 use crate::region::{first_slot, slanted, Region};
 use crate::scan::scan;
 use crate::stock::Stock;
+use crate::wrong_orders::arranging;
 
 /// A shelf and its order.
 pub struct Ordered {
@@ -22,7 +23,7 @@ pub struct Shelves {
 }
 
 impl Shelves {
-    /// Both shelves with the orders that the library builds. It stops where the library refuses, or where the Rust builder does not agree.
+    /// Both shelves with the orders that the library arranges. It stops where the library refuses, or where the Rust builder does not agree.
     pub fn new(stock: &Stock, seed: u64) -> Shelves {
         let full = Ordered {
             order: builds::agreed_order(stock),
@@ -30,9 +31,7 @@ impl Shelves {
         };
         let stock = stock.half_dead(seed);
         let wanted = builder::build_live(&stock);
-        let mut order = vec![u32::MAX; wanted.len()];
-        assert_eq!(library::build(&stock, &mut order), 0, "the build call");
-        assert_eq!(library::check(&stock, &order), 0, "the check call");
+        let order = builds::arranged(&stock);
         assert!(order == wanted, "the Rust builder's order of the live");
         let half = Ordered { stock, order };
         Shelves { full, half }
@@ -80,19 +79,18 @@ impl Ordered {
     }
 }
 
-/// Measures the build and the check on both shelves.
-pub fn measure_build(shelves: &Shelves, rounds: usize) -> Measured {
+/// Measures the arrange call on both shelves, from zeros and on the tree.
+pub fn measure_arrange(shelves: &Shelves, rounds: usize) -> Measured {
     let Shelves { full, half } = shelves;
-    let mut orders: [Vec<u32>; 2] = std::array::from_fn(|_| vec![0; full.stock.n]);
-    let [a, b] = &mut orders;
+    let zeros = || vec![0; full.stock.n];
     #[rustfmt::skip]
     let contenders = vec![
-        Contender::new("build", || library::build(&full.stock, a)),
-        Contender::new("build, half dead", || library::build(&half.stock, b)),
-        Contender::new("check", || library::check(&full.stock, &full.order)),
-        Contender::new("check, half dead", || library::check(&half.stock, &half.order)),
+        arranging("arrange", &full.stock, zeros()),
+        arranging("arrange, half dead", &half.stock, zeros()),
+        Contender::new(CHECK, || library::check(&full.stock, &full.order)),
+        Contender::new(HALF_CHECK, || library::check(&half.stock, &half.order)),
     ];
-    shelves.measured(Call::HalfBuild, None, best_of(rounds, contenders))
+    shelves.measured(Call::HalfArrange, None, best_of(rounds, contenders))
 }
 
 /// Measures the list call for one region of so many faces, the screen that finds the first slot, and the check, which is a part of both, each on
@@ -110,8 +108,8 @@ pub fn measure_list(shelves: &Shelves, h: usize, seed: u64, rounds: usize) -> Me
         Contender::new("list, half dead", || library::list(&half.stock, &half.order, &region, b)),
         Contender::new("screen", || library::screen(&full.stock, &full.order, &first)),
         Contender::new("screen, half dead", || library::screen(&half.stock, &half.order, &half_first)),
-        Contender::new("check", || library::check(&full.stock, &full.order)),
-        Contender::new("check, half dead", || library::check(&half.stock, &half.order)),
+        Contender::new(CHECK, || library::check(&full.stock, &full.order)),
+        Contender::new(HALF_CHECK, || library::check(&half.stock, &half.order)),
     ];
     let asked = Asked {
         kind: region.kind,

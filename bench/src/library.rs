@@ -4,16 +4,41 @@ use crate::region::{Joined, Region};
 use crate::stock::Stock;
 use hornherder::raw;
 
-pub use hornherder::raw::{take, withdraw, Explaining, Listing, Making, Screening};
+pub use hornherder::raw::{take, withdraw, Arranging, Explaining, Listing, Making, Screening};
 
-/// Arranges the shelf.
-pub fn build(stock: &Stock, order: &mut [u32]) -> u32 {
-    raw::build(stock.k, stock.n, &stock.points, &stock.live, order)
+extern "C" {
+    fn hornherder_arrange(
+        k: usize,
+        n: usize,
+        points: *const i32,
+        points_len: usize,
+        live: *const u8,
+        live_len: usize,
+        order: *mut u32,
+        order_len: usize,
+    ) -> Arranging;
 }
 
-/// Says 0 where the order is the shelf's.
-pub fn check(stock: &Stock, order: &[u32]) -> u32 {
-    raw::check(stock.k, stock.n, &stock.points, &stock.live, order)
+/// Arranges the shelf, and says whether the order already was its tree.
+pub fn arrange(stock: &Stock, order: &mut [u32]) -> Arranging {
+    raw::arrange(stock.k, stock.n, &stock.points, &stock.live, order)
+}
+
+/// The check: arranges an order that must be the tree already, in the very places that other calls read.
+pub fn check(stock: &Stock, order: &[u32]) -> Arranging {
+    // SAFETY: the pointers and lengths are those of slices, and the call writes no order that is the tree.
+    unsafe {
+        hornherder_arrange(
+            stock.k,
+            stock.n,
+            stock.points.as_ptr(),
+            stock.points.len(),
+            stock.live.as_ptr(),
+            stock.live.len(),
+            order.as_ptr().cast_mut(),
+            order.len(),
+        )
+    }
 }
 
 /// Lists the numbers inside and outside the region.

@@ -3,7 +3,7 @@
 use crate::clock::{best_of, Contender};
 use crate::cpp::{self, CgalPoints, CgalTree};
 use crate::library::{self, Listing};
-use crate::measured::{Asked, Call, Measured};
+use crate::measured::{Asked, Call, Measured, CHECK};
 use crate::region::Region;
 use crate::scan::scan;
 use crate::stock::Stock;
@@ -56,7 +56,7 @@ fn sorted(numbers: &[u32]) -> Vec<u32> {
     numbers
 }
 
-/// Measures every way to list one region of one shelf, and the check call, which is a part of the list call. The walk by hand follows a check,
+/// Measures every way to list one region of one shelf, and the check, which is a part of the list call. The walk by hand follows a check,
 /// as the walk does within the list call.
 pub fn measure(shelf: &Shelf, region: &Region, rounds: usize) -> Measured {
     let listing = agreed_listing(shelf, region);
@@ -66,7 +66,7 @@ pub fn measure(shelf: &Shelf, region: &Region, rounds: usize) -> Measured {
     let check = || library::check(stock, order);
     let contenders = vec![
         Contender::new("list", || library::list(stock, order, region, a)),
-        Contender::new("check", check),
+        Contender::new(CHECK, check),
         Contender::after("walk by hand", check, || walk(stock, order, region, b)),
         Contender::new("scan in Rust", || scan(stock, order, region, c)),
         Contender::new("scan in C++", || cpp::scan(stock, order, region, d)),

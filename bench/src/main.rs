@@ -27,6 +27,7 @@ mod stock;
 mod table;
 mod targets;
 mod walk;
+mod wrong_orders;
 
 use measured::Measured;
 use plan::Plan;

@@ -3,7 +3,7 @@
 use crate::clock::{best_of, Contender};
 use crate::library;
 use crate::lists::Shelf;
-use crate::measured::{Asked, Call, Measured, REGIONS};
+use crate::measured::{Asked, Call, Measured, CHECK, REGIONS};
 use crate::region::{Joined, Region};
 use crate::walk::root_rows;
 
@@ -55,7 +55,7 @@ fn on_the_average(region: &Region, counts: &[u32]) -> Asked {
     }
 }
 
-/// Measures the call for several regions of one shelf, and one list call for each; the check call and the root box by hand after one, which the
+/// Measures the call for several regions of one shelf, and one list call for each; the check and the root box by hand after one, which the
 /// one call has once and each of the others again; and CGAL, once for the inside alone and once for both lists. Every region has its own places.
 pub fn measure(shelf: &Shelf, regions: &[Region], rounds: usize) -> Measured {
     let joined = Joined::new(regions);
@@ -74,7 +74,7 @@ pub fn measure(shelf: &Shelf, regions: &[Region], rounds: usize) -> Measured {
                 library::list(stock, order, region, list)
             })
         }),
-        Contender::new("check", check),
+        Contender::new(CHECK, check),
         Contender::after("root box by hand", check, || root_rows(stock)),
         Contender::new("CGAL, inside alone", || {
             each(regions, c, |region, list| tree.list(region, list))

@@ -13,6 +13,7 @@ use crate::region::{emptied, first_slot, morning, one_plane, slanted, square, Re
 use crate::screens;
 use crate::stock::{Kind, Stock, CLUSTERED, ON_A_PLANE, ORDINARY, SPREAD};
 use crate::targets::{DIMENSION, FULL, SMALLER};
+use crate::wrong_orders;
 
 /// How much is measured.
 pub struct Plan {
@@ -30,8 +31,8 @@ impl Plan {
         }
     }
 
-    /// Every workload: the sizes, several regions in one call, the screens, the explain call, the colours, taking and withdrawing, shelves of
-    /// which half is dead, the dimensions, the other kinds, the hard ones.
+    /// Every workload: the sizes, orders that are not the tree, several regions in one call, the screens, the explain call, the colours, taking
+    /// and withdrawing, shelves of which half is dead, the dimensions, the other kinds, the hard ones.
     pub fn measure(&self) -> Vec<Measured> {
         let mut out = Vec::new();
         for n in self.sizes() {
@@ -39,6 +40,7 @@ impl Plan {
             let regions = if few { eight_faces } else { all_regions };
             out.extend(self.shelf(CLUSTERED, DIMENSION, n, regions));
         }
+        out.extend([SMALLER, FULL].map(|n| self.wrong_orders(n)));
         out.extend(self.mornings());
         out.extend(self.screens());
         out.push(self.explains());
@@ -61,6 +63,14 @@ impl Plan {
             out.extend(self.shelf(kind, DIMENSION, FULL, no_region));
         }
         out
+    }
+
+    /// Orders that are not the tree, on a shelf of so many points.
+    fn wrong_orders(&self, n: usize) -> Measured {
+        eprintln!("measuring orders that are not the tree, n {n}");
+        let stock = CLUSTERED.stock(DIMENSION, n, self.seed);
+        let order = builds::agreed_order(&stock);
+        wrong_orders::measure(&stock, &order, self.seed, 2 * self.rounds)
     }
 
     /// Several regions in one call, on the shelf that the targets speak of: of every number of faces and every share.
@@ -122,11 +132,12 @@ impl Plan {
         let shelves = halves::Shelves::new(&stock, self.seed);
         let faces: &[usize] = if self.quick { &[8] } else { &[8, 32] };
         let list = |&h: &usize| halves::measure_list(&shelves, h, self.seed, 2 * self.rounds);
-        let build = halves::measure_build(&shelves, 2 * self.rounds);
-        [build].into_iter().chain(faces.iter().map(list)).collect()
+        let arrange = halves::measure_arrange(&shelves, 2 * self.rounds);
+        let lists = faces.iter().map(list);
+        [arrange].into_iter().chain(lists).collect()
     }
 
-    /// One shelf: its build, then each of its regions.
+    /// One shelf: arranging it, then each of its regions.
     fn shelf(&self, kind: Kind, k: usize, n: usize, regions: Regions) -> Vec<Measured> {
         eprintln!("measuring {}, k {k}, n {n}", kind.name);
         let stock = kind.stock(k, n, self.seed);
@@ -156,7 +167,7 @@ const SCREENED: [(usize, f64); 7] = [
 /// The regions that a shelf is asked for.
 type Regions = fn(&Stock, u64) -> Vec<Region>;
 
-/// None: the shelf is only built and checked.
+/// None: the shelf is only arranged.
 fn no_region(_: &Stock, _: u64) -> Vec<Region> {
     Vec::new()
 }

@@ -1,6 +1,6 @@
 //! A plot of time against n for each call, as SVG: both axes double by equal steps, so that steady growth is a straight line.
 
-use crate::measured::Measured;
+use crate::measured::{Measured, CHECK};
 use crate::table::with_commas;
 use crate::targets::DIMENSION;
 use std::fmt::Write;
@@ -15,19 +15,19 @@ struct Panel {
 /// One panel for each call, and one for the walk alone.
 const PANELS: [Panel; 4] = [
     Panel {
-        title: "build",
+        title: "arrange",
         of_region: false,
-        names: &["build", "nanoflann", "CGAL", "Rust builder"],
+        names: &["arrange", "nanoflann", "CGAL", "Rust builder"],
     },
     Panel {
-        title: "check",
+        title: CHECK,
         of_region: false,
-        names: &["check", "build"],
+        names: &[CHECK, "arrange"],
     },
     Panel {
         title: "list, 8 slanted faces, 1 %",
         of_region: true,
-        names: &["list", "check", "scan in Rust", "scan in C++", "CGAL"],
+        names: &["list", CHECK, "scan in Rust", "scan in C++", "CGAL"],
     },
     Panel {
         title: "walk, 8 slanted faces, 1 %",
@@ -50,7 +50,7 @@ fn drawn(measured: &Measured, of_region: bool) -> bool {
         None => !of_region,
         Some(asked) => of_region && asked.h == 8 && asked.kind == "slanted" && asked.share == 0.01,
     };
-    let call = measured.is_build() || measured.is_list();
+    let call = measured.is_arrange() || measured.is_list();
     region && call && measured.points == "clustered" && measured.k == DIMENSION
 }
 

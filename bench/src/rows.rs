@@ -1,6 +1,6 @@
 //! The rows of the table: one ratio each.
 
-use crate::measured::{Asked, Call, Measured};
+use crate::measured::{Asked, Call, Measured, CHECK, HALF_CHECK};
 
 /// One ratio: what the library takes, against what, and what it is to be at most.
 pub struct Row {
@@ -28,12 +28,25 @@ impl Row {
 }
 
 /// What is compared for a shelf alone: a time of the library and another.
-const BUILD_PAIRS: [(&str, &str); 5] = [
-    ("build", "nanoflann"),
-    ("build", "CGAL"),
-    ("build", "Rust builder"),
-    ("build", "Rust builder, packed"),
-    ("check", "build"),
+const ARRANGE_PAIRS: [(&str, &str); 5] = [
+    ("arrange", "nanoflann"),
+    ("arrange", "CGAL"),
+    ("arrange", "Rust builder"),
+    ("arrange", "Rust builder, packed"),
+    (CHECK, "arrange"),
+];
+
+/// What is compared for orders that are not the tree.
+const WRONG_ORDER_PAIRS: [(&str, &str); 6] = [
+    ("arrange, one swap at the end", "arrange"),
+    ("arrange, a random order", "arrange"),
+    ("arrange, an order of yesterday", "arrange"),
+    ("arrange, one swap at the end", "on the tree and from zeros"),
+    ("arrange, a random order", "on the tree and from zeros"),
+    (
+        "arrange, an order of yesterday",
+        "on the tree and from zeros",
+    ),
 ];
 
 /// What is compared for a region that is listed.
@@ -78,14 +91,14 @@ const COLOUR_PAIRS: [(&str, &str); 1] = [("points from colours", "floor in Rust"
 /// What is compared for points that are taken in and withdrawn.
 const CHANGES_PAIRS: [(&str, &str); 4] = [
     ("take", "take by hand"),
-    ("take", "check"),
+    ("take", CHECK),
     ("withdraw", "withdraw by hand"),
-    ("withdraw", "check"),
+    ("withdraw", CHECK),
 ];
 
 /// What is compared for a shelf of which half is dead.
-const HALF_BUILD_PAIRS: [(&str, &str); 2] =
-    [("build, half dead", "build"), ("check, half dead", "check")];
+const HALF_ARRANGE_PAIRS: [(&str, &str); 2] =
+    [("arrange, half dead", "arrange"), (HALF_CHECK, CHECK)];
 
 /// What is compared for a region that is listed there.
 const HALF_LIST_PAIRS: [(&str, &str); 2] = [
@@ -96,14 +109,15 @@ const HALF_LIST_PAIRS: [(&str, &str); 2] = [
 /// The rows of one workload, with no target yet.
 pub fn rows(measured: &Measured) -> Vec<Row> {
     let pairs: &[(&'static str, &'static str)] = match measured.call {
-        Call::Build => &BUILD_PAIRS,
+        Call::Arrange => &ARRANGE_PAIRS,
+        Call::WrongOrders => &WRONG_ORDER_PAIRS,
         Call::List => &LIST_PAIRS,
         Call::Regions => &REGIONS_PAIRS,
         Call::Screen => &SCREEN_PAIRS,
         Call::Explain => &EXPLAIN_PAIRS,
         Call::Colours => &COLOUR_PAIRS,
         Call::Changes => &CHANGES_PAIRS,
-        Call::HalfBuild => &HALF_BUILD_PAIRS,
+        Call::HalfArrange => &HALF_ARRANGE_PAIRS,
         Call::HalfList => &HALF_LIST_PAIRS,
     };
     let row = |&(call, against): &(&'static str, &'static str)| Row {

@@ -3,7 +3,7 @@
 use crate::clock::{best_of, Contender};
 use crate::library::{self, Screening};
 use crate::lists::Shelf;
-use crate::measured::{Asked, Call, Measured};
+use crate::measured::{Asked, Call, Measured, CHECK};
 use crate::region::Region;
 use crate::walk::root_rows;
 
@@ -26,7 +26,7 @@ fn agreed_screening(shelf: &Shelf, region: &Region) -> (Screening, u32) {
     (answer, listing.inside)
 }
 
-/// Measures the screen and the list call for one region of one shelf, and the check call, which is a part of both. The root box by hand, which
+/// Measures the screen and the list call for one region of one shelf, and the check, which is a part of both. The root box by hand, which
 /// every screen needs, follows a check, as it does within the call.
 pub fn measure(shelf: &Shelf, region: &Region, rounds: usize) -> Measured {
     let (answer, inside) = agreed_screening(shelf, region);
@@ -36,7 +36,7 @@ pub fn measure(shelf: &Shelf, region: &Region, rounds: usize) -> Measured {
     let contenders = vec![
         Contender::new("screen", || library::screen(stock, order, region)),
         Contender::new("list", || library::list(stock, order, region, &mut list)),
-        Contender::new("check", check),
+        Contender::new(CHECK, check),
         Contender::after("root box by hand", check, || root_rows(stock)),
         Contender::new("CGAL, any point", || tree.any(region)),
     ];

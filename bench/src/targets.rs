@@ -1,6 +1,6 @@
 //! What is to be reached on a full shelf of clustered points in three dimensions.
 
-use crate::measured::{Call, Measured};
+use crate::measured::{Call, Measured, CHECK, HALF_CHECK};
 use crate::rows::Row;
 
 /// The dimension and the sizes that the targets speak of.
@@ -17,10 +17,11 @@ fn at_most(row: &Row) -> Option<f64> {
     let one_in_a_hundred = matches!(&row.asked, Some(asked) if asked.h == 8 && asked.share == 0.01);
     let emptied = matches!(&row.asked, Some(asked) if asked.inside == 0 && asked.visits >= 200);
     match (row.call, row.against.as_str()) {
-        ("build", "nanoflann") => Some(0.5),
-        ("build", "CGAL") => Some(0.7),
-        ("build", "Rust builder") => Some(0.9),
-        ("check", "build") => Some(0.15),
+        ("arrange", "nanoflann") => Some(0.5),
+        ("arrange", "CGAL") => Some(0.7),
+        ("arrange", "Rust builder") => Some(0.9),
+        (CHECK, "arrange") => Some(0.15),
+        (_, "on the tree and from zeros") => Some(1.02),
         ("walk", "walk by hand") => Some(1.2),
         ("walk", "scan in Rust" | "scan in C++") if eight => Some(0.5),
         ("list", "scan in Rust" | "scan in C++") if eight => Some(1.5),
@@ -28,8 +29,8 @@ fn at_most(row: &Row) -> Option<f64> {
         ("regions", "64 list calls") if one_in_a_hundred => Some(0.25),
         ("a region", "walk alone") if one_in_a_hundred => Some(1.05),
         ("regions", "CGAL, inside alone" | "CGAL, both lists") => Some(1.1),
-        ("build, half dead", "build") => Some(0.6),
-        ("check, half dead", "check") => Some(0.7),
+        ("arrange, half dead", "arrange") => Some(0.6),
+        (HALF_CHECK, CHECK) => Some(0.7),
         ("walk less root box, half dead", "walk less root box") => Some(0.75),
         _ => None,
     }
@@ -40,7 +41,7 @@ pub fn with_targets(mut rows: Vec<Row>, measured: &[Measured]) -> Vec<Row> {
     for row in &mut rows {
         row.at_most = at_most(row);
     }
-    rows.extend(worst_build(measured));
+    rows.extend(worst_arrange(measured));
     rows.extend(growth(measured));
     rows.extend(measured.iter().filter_map(explains_way));
     rows.extend(["CGAL, inside alone", "CGAL, both lists"].map(|other| mornings(measured, other)));
@@ -48,35 +49,35 @@ pub fn with_targets(mut rows: Vec<Row>, measured: &[Measured]) -> Vec<Row> {
     rows
 }
 
-/// The build of one kind of points in three dimensions, where it was measured.
-fn build_of<'a>(measured: &'a [Measured], points: &str, n: usize) -> Option<&'a Measured> {
-    let mut builds = measured.iter().filter(|m| m.is_build());
-    builds.find(|m| m.points == points && m.k == DIMENSION && m.n == n)
+/// Arranging one kind of points in three dimensions, where it was measured.
+fn arrange_of<'a>(measured: &'a [Measured], points: &str, n: usize) -> Option<&'a Measured> {
+    let mut all = measured.iter().filter(|m| m.is_arrange());
+    all.find(|m| m.points == points && m.k == DIMENSION && m.n == n)
 }
 
-/// The slowest build of a full shelf against the one of clustered points: at most 3.
-fn worst_build(measured: &[Measured]) -> Option<Row> {
-    let ordinary = build_of(measured, "clustered", FULL)?;
-    let full = |m: &&Measured| m.is_build() && m.k == DIMENSION && m.n == FULL;
+/// The slowest arranging of a full shelf against the one of clustered points: at most 3.
+fn worst_arrange(measured: &[Measured]) -> Option<Row> {
+    let ordinary = arrange_of(measured, "clustered", FULL)?;
+    let full = |m: &&Measured| m.is_arrange() && m.k == DIMENSION && m.n == FULL;
     let times = measured.iter().filter(full);
-    let worst = times.max_by(|x, y| x.time("build").total_cmp(&y.time("build")))?;
+    let worst = times.max_by(|x, y| x.time("arrange").total_cmp(&y.time("arrange")))?;
     Some(Row {
-        call: "worst build",
+        call: "worst arrange",
         points: worst.points,
         k: DIMENSION,
         n: FULL,
         asked: None,
-        micros: worst.time("build"),
-        against: "build, clustered".to_string(),
-        other_micros: ordinary.time("build"),
+        micros: worst.time("arrange"),
+        against: "arrange, clustered".to_string(),
+        other_micros: ordinary.time("arrange"),
         at_most: Some(3.0),
     })
 }
 
-/// The build of a full shelf against what n log n makes of the build of a smaller one: at most 1.3.
+/// Arranging a full shelf against what n log n makes of arranging a smaller one: at most 1.3.
 fn growth(measured: &[Measured]) -> Option<Row> {
-    let large = build_of(measured, "clustered", FULL)?;
-    let small = build_of(measured, "clustered", SMALLER)?;
+    let large = arrange_of(measured, "clustered", FULL)?;
+    let small = arrange_of(measured, "clustered", SMALLER)?;
     let work = |n: usize| n as f64 * (n as f64).log2();
     Some(Row {
         call: "growth",
@@ -84,9 +85,9 @@ fn growth(measured: &[Measured]) -> Option<Row> {
         k: DIMENSION,
         n: FULL,
         asked: None,
-        micros: large.time("build"),
+        micros: large.time("arrange"),
         against: "n log n from 8,192".to_string(),
-        other_micros: small.time("build") * work(FULL) / work(SMALLER),
+        other_micros: small.time("arrange") * work(FULL) / work(SMALLER),
         at_most: Some(1.3),
     })
 }
@@ -112,7 +113,7 @@ fn mornings(measured: &[Measured], against: &str) -> Row {
     }
 }
 
-/// What the explain call takes beyond the check call, on the average over its numbers: at most 20 µs.
+/// What the explain call takes beyond the check, on the average over its numbers: at most 20 µs.
 fn explains_way(measured: &Measured) -> Option<Row> {
     matches!(measured.call, Call::Explain).then(|| Row {
         call: "explain's way",

@@ -1,8 +1,7 @@
 /*
  * Hornherder for C and C++: points of whole numbers on a shelf, arranged as a k-d tree.
  *
- *   hornherder_build     arranges points as a shelf
- *   hornherder_check     says whether an order is that shelf
+ *   hornherder_arrange   arranges points as a shelf, and says whether the order already was it
  *   hornherder_take      puts a point on the lowest number that is free
  *   hornherder_withdraw  frees a number
  *   hornherder_list      lists the points inside and outside a region, by way of the shelf
@@ -57,7 +56,8 @@
  * array in C is. The buffers of one call must not overlap. Buffers behind a pointer to const are
  * not written. An order or a list buffer may be longer than v: its places from v on are neither
  * read nor written; for several regions a list buffer may be longer than v places for each, and a
- * counts buffer than three. So n places are always enough. The calls allocate nothing, and keep
+ * counts buffer than three. So n places, for several regions n for each, are always enough. The
+ * calls allocate nothing, and keep
  * nothing once they have returned.
  *
  * Refusals. A call that cannot be done returns one of the numbers below. Each call names those that
@@ -72,12 +72,12 @@
  *
  * Stack. A call needs less than HORNHERDER_STACK_BYTES of stack, whatever its arguments.
  *
- * Cost. A list call checks the order first, as hornherder_check does. On 65,535 points with 8 faces
- * that is about seven tenths of the call on x86-64 and four fifths on Arm; on small shelves less. A
- * check before a list call pays for it twice. A screen checks the order too, and does no more than a
- * list call: where one of the first slots is inside, it is little more than that check. An explain
- * call goes one way down from the root, so it is little more than that check for every point.
- * Several regions in one call share one check: each costs the walk alone.
+ * Cost. A list call checks the order first, which costs what hornherder_arrange does where the order
+ * is the shelf already. On 65,535 points with 8 faces that is about seven tenths of the call on x86-64
+ * and four fifths on Arm; on small shelves less. A screen checks the order too, and does no more than
+ * a list call: where one of the first slots is inside, it is little more than that check. An explain
+ * call goes one way down from the root, so it is little more than that check for every point. Several
+ * regions in one call share one check: each costs the walk alone.
  *
  * Machine. The library is compiled for x86-64 Linux or for Arm (aarch64) Linux, with the calling
  * convention that C compilers use there. Of the C library it needs at most memcpy, memmove and
@@ -100,7 +100,7 @@ extern "C" {
  * and the shared library has behind its name. It rises by one with each change of a name, a layout
  * or the meaning of a number.
  */
-#define HORNHERDER_VERSION 9
+#define HORNHERDER_VERSION 10
 
 /* k, how many coordinates a point has. */
 #define HORNHERDER_MIN_DIMENSION 1
@@ -200,7 +200,7 @@ static inline const char *hornherder_refusal_text(uint32_t number)
                "likely: a normal scaled too far, or an offset in a component's place";
     case HORNHERDER_NOT_THE_TREE:
         return "the first v slots are not the tree of the live points; "
-               "likely: points taken or withdrawn, or an order of another shelf: build again";
+               "likely: points taken or withdrawn, or an order of another shelf: arrange again";
     case HORNHERDER_MARKS:
         return "the marks are not h long (several regions: h of all together), "
                "or a mark is not 0 or 1; "
@@ -224,6 +224,12 @@ static inline const char *hornherder_refusal_text(uint32_t number)
         return "no number of this version";
     }
 }
+
+/* What hornherder_arrange answers. */
+typedef struct {
+    uint32_t code;    /* HORNHERDER_DONE, or the refusal */
+    uint32_t already; /* 1: the order was the shelf before; 0: it was not, or the call was refused */
+} hornherder_arranging;
 
 /* What hornherder_take answers. */
 typedef struct {
@@ -272,31 +278,23 @@ typedef struct {
 } hornherder_making;
 
 /*
- * Arranges the points: writes their shelf into order[0] to order[v - 1]. What the order held before
- * does not matter.
+ * Arranges the points: afterwards order[0] to order[v - 1] are their shelf, whatever they held before.
+ * Already says whether they were it before; where they were, nothing is written.
  *
  *   points   k * n coordinates, those of live numbers each -32,768 to 32,767
  *   live     n live bytes, each 0 (dead) or 1 (live)
- *   order    at least v places
+ *   order    at least v places, which may hold any numbers; the first v are written unless they are
+ *            the shelf already
  *
- * Returns HORNHERDER_DONE, or a refusal: 1, 2, 3, then 15, then 4, 5.
+ * An order that is the shelf costs one check. Any other costs what it takes to find it wrong, which
+ * is mostly soon, and the arranging.
+ *
+ * Answers HORNHERDER_DONE with already, or a refusal, 1, 2, 3, then 15, then 4, 5, with 0. A wrong
+ * order is no refusal here; the calls that need the shelf and may not write it refuse it with 9.
  */
-uint32_t hornherder_build(size_t k, size_t n, const int32_t *points, size_t points_len,
-                          const uint8_t *live, size_t live_len, uint32_t *order, size_t order_len);
-
-/*
- * Checks an order: returns HORNHERDER_DONE exactly where order[0] to order[v - 1] are the shelf of
- * these points.
- *
- *   points   k * n coordinates, those of live numbers each -32,768 to 32,767
- *   live     n live bytes, each 0 (dead) or 1 (live)
- *   order    at least v places, which may hold any numbers
- *
- * Returns HORNHERDER_DONE, or a refusal: 1, 2, 3, then 15, then 4, 5, then 9.
- */
-uint32_t hornherder_check(size_t k, size_t n, const int32_t *points, size_t points_len,
-                          const uint8_t *live, size_t live_len, const uint32_t *order,
-                          size_t order_len);
+hornherder_arranging hornherder_arrange(size_t k, size_t n, const int32_t *points,
+                                        size_t points_len, const uint8_t *live, size_t live_len,
+                                        uint32_t *order, size_t order_len);
 
 /*
  * Takes a point in: writes it at the lowest dead number and sets that number's live byte. So numbers
@@ -307,9 +305,8 @@ uint32_t hornherder_check(size_t k, size_t n, const int32_t *points, size_t poin
  *   live     n live bytes, each 0 (dead) or 1 (live); that of the number taken is set, and no other
  *   point    k coordinates, each -32,768 to 32,767
  *
- * The order is not asked for. One of before passes hornherder_check only where the new number stands
- * in it already, as where it is taken again right after it was withdrawn; hornherder_build makes it
- * anew.
+ * The order is not asked for. One of before is still the shelf only where the new number stands in it
+ * already, as where it is taken again right after it was withdrawn; hornherder_arrange sees to it.
  *
  * Answers HORNHERDER_DONE with the number taken, or a refusal, 1, 2, 3, then 15, then 5, then 16,
  * with 0. 3 and 5 are asked of the new point too. Number 0 may be the one that is taken: ask the code.
@@ -324,9 +321,9 @@ hornherder_taking hornherder_take(size_t k, size_t n, int32_t *points, size_t po
  *   number   a number that is live
  *   live     n live bytes, each 0 (dead) or 1 (live); that of the number is cleared, and no other
  *
- * Neither points nor order are asked for, and the coordinates stay as they are. Whether an order that
- * was the shelf before still passes is for hornherder_check to say, by the points that are live now.
- * It can only where the number stood in the last slot, and with k = 1 it always does then.
+ * Neither points nor order are asked for, and the coordinates stay as they are. An order that was the
+ * shelf before can still be that of the points that are live now only where the number stood in the
+ * last slot, and with k = 1 it always is then; hornherder_arrange sees to it.
  *
  * Returns HORNHERDER_DONE, or a refusal: 2, then 15, then 17.
  */

@@ -74,19 +74,18 @@ static void take(void *bytes, size_t count)
     }
 }
 
-/* Takes a buffer back: into the caller's where the call may write it; elsewhere it must be as it was. */
+/* Takes a buffer back: into the caller's where it is no longer as it was, which it may be only where the call may write it. */
 static void take_back(const lent *buffer, size_t size)
 {
-    if (buffer->written) {
-        take((void *)buffer->bytes, size);
-        return;
-    }
     void *after = malloc(size + 1);
     if (after == NULL)
         stop("no memory");
     take(after, size);
-    if (size != 0 && memcmp(after, buffer->bytes, size) != 0)
-        stop("a call wrote what it was lent to read");
+    if (size != 0 && memcmp(after, buffer->bytes, size) != 0) {
+        if (!buffer->written)
+            stop("a call wrote what it was lent to read");
+        memcpy((void *)buffer->bytes, after, size);
+    }
     free(after);
 }
 
@@ -128,18 +127,11 @@ static hornherder_making forward_reading(int call, float first, float second, fl
     return pass(request, buffers).making;
 }
 
-uint32_t hornherder_build(size_t k, size_t n, const int32_t *points, size_t points_len, const uint8_t *live, size_t live_len,
-                          uint32_t *order, size_t order_len)
+hornherder_arranging hornherder_arrange(size_t k, size_t n, const int32_t *points, size_t points_len, const uint8_t *live,
+                                        size_t live_len, uint32_t *order, size_t order_len)
 {
     const lent buffers[WIRE_BUFFERS] = {{points, points_len, 0}, {live, live_len, 0}, {order, order_len, 1}};
-    return forward(WIRE_BUILD, k, n, 0, buffers).code;
-}
-
-uint32_t hornherder_check(size_t k, size_t n, const int32_t *points, size_t points_len, const uint8_t *live, size_t live_len,
-                          const uint32_t *order, size_t order_len)
-{
-    const lent buffers[WIRE_BUFFERS] = {{points, points_len, 0}, {live, live_len, 0}, {order, order_len, 0}};
-    return forward(WIRE_CHECK, k, n, 0, buffers).code;
+    return forward(WIRE_ARRANGE, k, n, 0, buffers).arranging;
 }
 
 hornherder_taking hornherder_take(size_t k, size_t n, int32_t *points, size_t points_len, uint8_t *live, size_t live_len,

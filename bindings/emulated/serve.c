@@ -157,11 +157,9 @@ static wire_answer call(const wire_request *r, void **b)
     const uint64_t *length = r->length;
     wire_answer answer = {{0, 0, 0, 0}};
     switch (r->call) {
-    case WIRE_BUILD:
-        answer.code = hornherder_build(r->k, r->n, points, length[WIRE_POINTS], live, length[WIRE_LIVE], order, length[WIRE_ORDER]);
-        return answer;
-    case WIRE_CHECK:
-        answer.code = hornherder_check(r->k, r->n, points, length[WIRE_POINTS], live, length[WIRE_LIVE], order, length[WIRE_ORDER]);
+    case WIRE_ARRANGE:
+        answer.arranging =
+            hornherder_arrange(r->k, r->n, points, length[WIRE_POINTS], live, length[WIRE_LIVE], order, length[WIRE_ORDER]);
         return answer;
     case WIRE_TAKE:
     case WIRE_WITHDRAW:

@@ -9,8 +9,7 @@
 
 /* The calls. */
 enum {
-    WIRE_BUILD,
-    WIRE_CHECK,
+    WIRE_ARRANGE,
     WIRE_TAKE,
     WIRE_WITHDRAW,
     WIRE_LIST,
@@ -58,6 +57,7 @@ typedef union {
     hornherder_explaining explaining;
     hornherder_placing placing;
     hornherder_making making;
+    hornherder_arranging arranging;
     hornherder_taking taking;
     uint32_t code;
 } wire_answer;

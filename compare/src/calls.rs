@@ -8,63 +8,91 @@ use crate::reasons;
 use hornherder::raw;
 use std::fmt::Debug;
 
-/// Compares build, also with other dead coordinates: the answer, and the order afterwards.
-pub fn build(lent: &Lent) -> (u32, Vec<u32>) {
+/// Compares arrange, also with other numbers behind place v, with other dead coordinates and on what it leaves: the answer, and the order
+/// afterwards.
+pub fn arrange(lent: &Lent) -> (raw::Arranging, Vec<u32>) {
     let Lent { k, n, .. } = *lent;
-    let mut theirs = lent.clone();
-    let expected = second::build(k, n, &lent.points, &lent.live, &mut theirs.order);
-    let (answer, order) = built(lent);
-    assert_eq!(answer, expected, "build of {lent:?}");
-    same("build", lent, &order, &theirs.order);
-    kept("build", lent, answer, &lent.order, &order);
-    if let Some(other) = lent.with_other_dead() {
-        let (again, after) = built(&other);
-        assert_eq!(again, answer, "build by other dead coordinates of {lent:?}");
-        same("build by other dead coordinates", lent, &after, &order);
+    let mut theirs = lent.order.clone();
+    let expected = second::arrange(k, n, &lent.points, &lent.live, &mut theirs);
+    let (answer, order) = arranged(lent);
+    let told = (answer.code, answer.already);
+    assert_eq!(
+        told,
+        (expected.code, expected.already),
+        "arrange of {lent:?}"
+    );
+    same("arrange", lent, &order, &theirs);
+    hold_arranging(lent, answer, &order);
+    let behind = ("by what is behind", lent.with_other_behind());
+    let dead = lent.with_other_dead();
+    let dead = dead.map(|other| ("by other dead coordinates", other));
+    for (why, other) in [behind].into_iter().chain(dead) {
+        arranged_alike(why, &other, answer, &order);
     }
     (answer, order)
 }
 
-/// Calls the library's build: the answer, and the order afterwards.
-fn built(lent: &Lent) -> (u32, Vec<u32>) {
+/// Calls the library's arrange, with other numbers right behind each slice: the answer, and the order afterwards.
+fn arranged(lent: &Lent) -> (raw::Arranging, Vec<u32>) {
     let mut order = lent.order.clone();
     let answer = lend_live(lent, |points, live| {
-        raw::build(lent.k, lent.n, points, live, &mut order)
+        lend_to_write(lent, &mut order, |order| {
+            raw::arrange(lent.k, lent.n, points, live, order)
+        })
     });
     (answer, order)
 }
 
-/// The shelf of right points: the same with the order that build made, which check accepts.
-pub fn shelf(lent: &Lent) -> Lent {
-    let (code, order) = build(lent);
-    assert_eq!(code, 0, "build of {lent:?}");
-    let shelf = lent.with_order(&order);
-    assert_eq!(check(&shelf), 0, "check of {shelf:?}");
-    shelf
-}
-
-/// Compares check, also with other numbers behind place v and with other dead coordinates.
-pub fn check(lent: &Lent) -> u32 {
-    let Lent { k, n, .. } = *lent;
-    let answer = checked(lent);
-    let expected = second::check(k, n, &lent.points, &lent.live, &lent.order);
-    assert_eq!(answer, expected, "check of {lent:?}");
-    let behind = checked(&lent.with_other_behind());
-    assert_eq!(behind, answer, "check by what is behind of {lent:?}");
-    if let Some(other) = lent.with_other_dead() {
-        let again = checked(&other);
-        assert_eq!(again, answer, "check by other dead coordinates of {lent:?}");
+/// Asks of a refusal that it has already 0 and nothing was written; of a done call that the places from v on are kept, that already is 1
+/// exactly where no place differs, and that what it leaves already is the tree.
+fn hold_arranging(before: &Lent, answer: raw::Arranging, order: &[u32]) {
+    kept("arrange", before, answer.code, &before.order, order);
+    if answer.code != 0 {
+        assert_eq!(answer.already, 0, "refusal of {before:?}");
+        return;
     }
-    answer
+    let differs = before.order != order;
+    assert_eq!(answer.already, u32::from(!differs), "already of {before:?}");
+    let (again, after) = arranged(&before.with_order(order));
+    assert_eq!(
+        (again.code, again.already),
+        (0, 1),
+        "arrange again of {before:?}"
+    );
+    same("arrange again", before, &after, order);
 }
 
-/// Calls the library's check.
-fn checked(lent: &Lent) -> u32 {
-    lend_live(lent, |points, live| {
-        lend(lent, &lent.order, |order| {
-            raw::check(lent.k, lent.n, points, live, order)
-        })
-    })
+/// Asks that the library's arrange answers another call with what it answered, and with the same first v places.
+fn arranged_alike(why: &str, other: &Lent, answer: raw::Arranging, order: &[u32]) {
+    let (again, after) = arranged(other);
+    assert_eq!(again, answer, "arrange {why} of {other:?}");
+    kept("arrange", other, again.code, &other.order, &after);
+    if answer.code == 0 {
+        let v = other.v();
+        let (first, second) = (&after[..v], &order[..v]);
+        same(&format!("arrange {why}"), other, first, second);
+    }
+}
+
+/// The shelf of right points: the same with the order that arrange leaves.
+pub fn shelf(lent: &Lent) -> Lent {
+    let (answer, order) = arrange(lent);
+    assert_eq!(answer.code, 0, "arrange of {lent:?}");
+    lent.with_order(&order)
+}
+
+/// Whether the order of right points already is their tree. The calls that need the tree must go by that too.
+pub fn is_shelf(lent: &Lent) -> bool {
+    let answer = arrange(lent).0;
+    assert_eq!(answer.code, 0, "arrange of {lent:?}");
+    let code = if answer.already == 1 { 0 } else { 9 };
+    assert_eq!(screened(lent).code, code, "screen of {lent:?}");
+    assert_eq!(
+        listed_with_room(lent).0.code,
+        code,
+        "list with room of {lent:?}"
+    );
+    answer.already == 1
 }
 
 /// Compares list, also with the calls that must be answered alike: the answer, and the list buffer afterwards.
@@ -148,6 +176,28 @@ where
     let places = before.clone();
     let answer = call(&places[..slice.len()]);
     same("what was lent", lent, &places, &before);
+    answer
+}
+
+/// Makes a call of the library with a slice that it may write, right behind which other numbers stand, and asks that it leaves those.
+pub(crate) fn lend_to_write<T, A>(
+    lent: &Lent,
+    slice: &mut [T],
+    call: impl FnOnce(&mut [T]) -> A,
+) -> A
+where
+    T: Copy + Debug + From<u8> + PartialEq,
+{
+    let beyond = lent.beyond.map(T::from);
+    let mut places = [&slice[..], &beyond].concat();
+    let answer = call(&mut places[..slice.len()]);
+    slice.copy_from_slice(&places[..slice.len()]);
+    same(
+        "behind what was lent",
+        lent,
+        &places[slice.len()..],
+        &beyond,
+    );
     answer
 }
 

@@ -1,12 +1,11 @@
 //! Take and withdraw, made by the library and by the second program, which must agree in the answer and in every lent place afterwards; and
 //! each held to its own words.
 
-use crate::calls::{lend, same};
+use crate::calls::{lend, lend_to_write, same};
 use crate::lent::Lent;
 use crate::live::count;
 use hornherder::raw;
 use second::live::{DEAD, LIVE};
-use std::fmt::Debug;
 
 /// Compares take, also with other dead coordinates and with other numbers behind what is lent: the answer, and all that was lent
 /// afterwards. Where it is done, the same with the point on its number.
@@ -101,22 +100,4 @@ fn hold_withdrawing(before: &Lent, code: u32, after: &[u8]) {
         assert_eq!(count(after) + 1, before.v(), "one fewer of {before:?}");
     }
     same("the bytes after withdraw", before, after, &wanted);
-}
-
-/// Makes a call of the library with a slice that it may write, right behind which other numbers stand, and asks that it leaves those.
-fn lend_to_write<T, A>(lent: &Lent, slice: &mut [T], call: impl FnOnce(&mut [T]) -> A) -> A
-where
-    T: Copy + Debug + From<u8> + PartialEq,
-{
-    let beyond = lent.beyond.map(T::from);
-    let mut places = [&slice[..], &beyond].concat();
-    let answer = call(&mut places[..slice.len()]);
-    slice.copy_from_slice(&places[..slice.len()]);
-    same(
-        "behind what was lent",
-        lent,
-        &places[slice.len()..],
-        &beyond,
-    );
-    answer
 }

@@ -73,27 +73,29 @@ fn put(chance: &mut Chance, order: &mut [u32], other: impl Fn(u32) -> u32) {
     order[slot] = other(order[slot]);
 }
 
-/// The order that a builder would make which gives ties to the greater number.
+/// The order of a tree that gives ties to the greater number.
 pub fn ties_the_other_way(k: usize, points: &[i32]) -> Vec<u32> {
     let n = points.len() / k;
     let backwards: Vec<i32> = points.chunks(k).rev().flatten().copied().collect();
-    let mut order = vec![0; n];
-    assert_eq!(
-        second::build(k, n, &backwards, &live::all(n), &mut order),
-        0
-    );
+    let order = arranged(k, &backwards);
     order.iter().map(|number| n as u32 - 1 - number).collect()
 }
 
-/// The order that a builder would make which splits on the dimensions from the last to the first.
+/// The order of a tree that splits on the dimensions from the last to the first.
 pub fn dimensions_the_other_way(k: usize, points: &[i32]) -> Vec<u32> {
     let turned: Vec<i32> = points
         .chunks(k)
         .flat_map(|point| point.iter().rev())
         .copied()
         .collect();
+    arranged(k, &turned)
+}
+
+/// The order of these points, all live, by the second program.
+fn arranged(k: usize, points: &[i32]) -> Vec<u32> {
     let n = points.len() / k;
     let mut order = vec![0; n];
-    assert_eq!(second::build(k, n, &turned, &live::all(n), &mut order), 0);
+    let answer = second::arrange(k, n, points, &live::all(n), &mut order);
+    assert_eq!(answer.code, 0);
     order
 }

@@ -9,7 +9,7 @@ use std::fmt;
 /// The greatest offset.
 pub const MOST_OFFSET: i64 = 8_589_934_592;
 
-/// The arguments of all calls for one region: build and check take the first part, the screen all but the list buffer, the explain call the same with the
+/// The arguments of all calls for one region: arrange takes the first part, the screen all but the list buffer, the explain call the same with the
 /// number, withdraw the number and the live bytes, take the point with points and live bytes, the one-point test the point.
 #[derive(Clone, PartialEq, Eq)]
 pub struct Lent {
@@ -26,7 +26,7 @@ pub struct Lent {
     pub number: u32,
     pub point: Vec<i32>,
     /// What stands in memory directly behind the live bytes and the marks, for the one-point test and the explain call behind the points and
-    /// all slices of the faces, and for take behind all slices.
+    /// all slices of the faces, and for arrange and take behind all slices.
     pub beyond: [u8; 4],
 }
 

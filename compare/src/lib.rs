@@ -6,6 +6,7 @@ pub mod calls;
 pub mod cases;
 pub mod chance;
 pub mod changes;
+pub mod contents;
 pub mod damage;
 pub mod faces;
 pub mod faults;

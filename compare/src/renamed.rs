@@ -15,7 +15,7 @@ fn alone(lent: &Lent, names: &[u32]) -> Lent {
     alone
 }
 
-/// Asks that the library builds the live points alone as it built them among dead numbers, and lists them with the same counts, each number
+/// Asks that the library arranges the live points alone as it arranged them among dead numbers, and lists them with the same counts, each number
 /// under its own name.
 pub fn hold(lent: &Lent) {
     let names = lent.live_numbers();
@@ -24,8 +24,9 @@ pub fn hold(lent: &Lent) {
         let held = numbers[..names.len()].iter();
         held.map(|number| names[*number as usize]).collect()
     };
-    let (code, order) = calls::build(&alone);
-    assert_eq!(code, 0, "build of the live points of {lent:?}");
+    let (answer, order) = calls::arrange(&alone);
+    let told = (answer.code, answer.already);
+    assert_eq!(told, (0, 1), "arrange of the live points of {lent:?}");
     same("the order", lent, lent.slots(), &named(&order));
     let (whole, list) = calls::list(lent);
     let (answer, places) = calls::list(&alone);

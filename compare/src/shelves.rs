@@ -15,7 +15,7 @@ pub fn of(chance: &mut Chance, stock: Stock, k: usize) -> Lent {
     calls::shelf(&Lent::new(chance, k, points))
 }
 
-/// The points of a shelf, all live, as the live numbers of these bytes, the others of any coordinates. Its order is not built.
+/// The points of a shelf, all live, as the live numbers of these bytes, the others of any coordinates. Its order is not arranged.
 pub fn among_dead(chance: &mut Chance, shelf: &Lent, live: Vec<u8>) -> Lent {
     let (k, n) = (shelf.k, live.len());
     let mut points = vec![0; n * k];

@@ -30,7 +30,7 @@ fn with_newcomer(chance: &mut Chance, shelf: &Lent, stock: Stock) -> Lent {
 }
 
 /// Every case of a sequence.
-const STEPS: [&str; 14] = [
+const STEPS: [&str; 16] = [
     "take: done",
     "take: the number that was withdrawn last",
     "take: the last number",
@@ -39,10 +39,12 @@ const STEPS: [&str; 14] = [
     "withdraw: the last one live",
     "withdraw: 17, dead",
     "withdraw: 17, n or more",
-    "check after take: 9",
-    "check after take: 0",
-    "check after withdraw: 9",
-    "check after withdraw: 0",
+    "after take: no longer the tree",
+    "after take: the tree",
+    "after withdraw: no longer the tree",
+    "after withdraw: the tree",
+    "arrange: arranged",
+    "arrange: already",
     "list: 0",
     "list: 9",
 ];
@@ -74,9 +76,9 @@ impl Course {
         }
         self.takes += 1;
         self.shelf = after;
-        seen.count(match self.passes() {
-            true => "check after take: 0",
-            false => "check after take: 9",
+        seen.count(match calls::is_shelf(&self.shelf) {
+            true => "after take: the tree",
+            false => "after take: no longer the tree",
         });
     }
 
@@ -98,9 +100,9 @@ impl Course {
         self.withdrawals += 1;
         self.freed = Some(number);
         self.shelf = after;
-        seen.count(match self.passes() {
-            true => "check after withdraw: 0",
-            false => "check after withdraw: 9",
+        seen.count(match calls::is_shelf(&self.shelf) {
+            true => "after withdraw: the tree",
+            false => "after withdraw: no longer the tree",
         });
     }
 
@@ -108,14 +110,6 @@ impl Course {
     fn total(&self) {
         let total = self.takes - self.withdrawals;
         assert_eq!(self.shelf.v(), total, "{:?}", self.shelf);
-    }
-
-    /// Whether the order as it is passes: check and the calls that need the tree must say so alike.
-    fn passes(&self) -> bool {
-        let code = calls::check(&self.shelf);
-        assert!([0, 9].contains(&code), "{:?}", self.shelf);
-        assert_eq!(calls::screen(&self.shelf).code, code, "{:?}", self.shelf);
-        code == 0
     }
 
     /// Lists the shelf with a region, by the order as it is.
@@ -128,9 +122,15 @@ impl Course {
         });
     }
 
-    /// Builds the order, which passes then.
-    fn build(&mut self) {
-        self.shelf = calls::shelf(&self.shelf);
+    /// Arranges the shelf.
+    fn arrange(&mut self, seen: &mut Seen<&'static str>) {
+        let (answer, order) = calls::arrange(&self.shelf);
+        assert_eq!(answer.code, 0, "{:?}", self.shelf);
+        seen.count(match answer.already {
+            0 => "arrange: arranged",
+            _ => "arrange: already",
+        });
+        self.shelf = self.shelf.with_order(&order);
     }
 }
 
@@ -146,7 +146,7 @@ fn step(
     let some = chance.below(n + 2) as u32;
     let last_slot = course.shelf.slots().last().copied().unwrap_or(some);
     match (chance.below(10), back) {
-        (0, _) => course.build(),
+        (0, _) => course.arrange(seen),
         (1, _) => course.list(chance, seen),
         (2, _) => course.withdraw(some, seen),
         (3, _) => course.take(chance, stock, seen),
@@ -158,7 +158,7 @@ fn step(
     course.total();
 }
 
-/// Long sequences of take, withdraw, build and list on one shelf, from empty to full and back.
+/// Long sequences of take, withdraw, arrange and list on one shelf, from empty to full and back.
 #[test]
 fn sequences() {
     let (mut seen, sizes) = (Seen::new(STEPS), [2, 5, 14, 40]);
@@ -177,14 +177,14 @@ fn sequences() {
                 step(chance, &mut course, back, stock, &mut seen);
             }
         }
-        course.build();
+        course.arrange(&mut seen);
         course.list(chance, &mut seen);
     });
     seen.enough("sequences of changes");
 }
 
-/// Every row of up to 8 live bytes: a take gets its lowest dead number, and each number is withdrawn exactly where it is live. The order of
-/// before a withdrawal passes by what is live afterwards.
+/// Every row of up to 8 live bytes: a take gets its lowest dead number, and each number is withdrawn exactly where it is live. Whether the
+/// order of before a withdrawal is still the tree goes by what is live afterwards.
 #[test]
 fn every_row() {
     let mut chance = Chance::new(cases::SEED);
@@ -206,26 +206,26 @@ fn every_row() {
                 let call = shelf.with_number(number);
                 let (code, after) = changes::withdraw(&call);
                 assert_eq!(code, if call.is_live(number) { 0 } else { 17 }, "{call:?}");
-                calls::check(&after);
+                calls::is_shelf(&after);
             }
         }
     }
 }
 
-/// Of a row of two points, 0 and 10, with the order 0 1: where number 1 is withdrawn the order passes, where number 0 is it does not, and once
-/// the withdrawn point is back under its number it does again.
+/// Of a row of two points, 0 and 10, with the order 0 1: where number 1 is withdrawn the order is still the tree, where number 0 is it is not,
+/// and once the withdrawn point is back under its number it is again.
 #[test]
 fn row_of_two() {
     let mut chance = Chance::new(cases::SEED);
     let mut row = calls::shelf(&Lent::new(&mut chance, 1, vec![0, 10]));
     row.order = vec![0, 1];
-    for (number, passes) in [(1, 0), (0, 9)] {
+    for (number, still, listed) in [(1, true, 0), (0, false, 9)] {
         let (code, after) = changes::withdraw(&row.with_number(number));
-        assert_eq!((code, calls::check(&after)), (0, passes));
-        assert_eq!(calls::list(&after).0.code, passes);
+        assert_eq!((code, calls::is_shelf(&after)), (0, still));
+        assert_eq!(calls::list(&after).0.code, listed);
         let point = row.point_of(number).to_vec();
         let (answer, back) = changes::take(&Lent { point, ..after });
         assert_eq!((answer.code, answer.number), (0, number));
-        assert_eq!(calls::check(&back), 0);
+        assert!(calls::is_shelf(&back));
     }
 }

@@ -1,5 +1,5 @@
-//! Orders damaged in every way: the answer of check, of list, of screen and of explain is the second program's, and
-//! nothing is written.
+//! Orders damaged in every way: list, screen and explain refuse them with 9 and write nothing; arrange says that they were not the tree, and
+//! makes them it.
 
 use compare::calls;
 use compare::cases;
@@ -12,7 +12,6 @@ use compare::seen::Seen;
 use compare::shelves;
 use compare::stock::Stock;
 use second::live::{DEAD, LIVE};
-use std::collections::BTreeMap;
 
 /// A right shelf of 2 to 200 points with some faces, in this dimension.
 fn shelf(chance: &mut Chance, k: usize) -> Lent {
@@ -24,37 +23,49 @@ fn shelf(chance: &mut Chance, k: usize) -> Lent {
     calls::shelf(&Lent::new(chance, k, points)).with_faces(normals, offsets)
 }
 
-/// Compares check, list, screen and explain on a damaged order, and says whether it was refused.
+/// Compares arrange, list, screen and explain on a damaged order, and says whether it was refused. Arranged, it is as before the damage.
 fn refused(shelf: &Lent, order: &[u32]) -> bool {
     let damaged = shelf.with_order(order);
-    let code = calls::check(&damaged);
+    let same = order == shelf.slots();
+    let (answer, after) = calls::arrange(&damaged);
+    let told = (answer.code, answer.already);
+    assert_eq!(told, (0, u32::from(same)), "{damaged:?}");
+    assert_eq!(after, shelf.order, "{damaged:?}");
+    let code = if same { 0 } else { 9 };
     assert_eq!(calls::list(&damaged).0.code, code);
     assert_eq!(calls::screen(&damaged).code, code);
     assert_eq!(calls::explain(&damaged).code, code);
-    assert_eq!(code == 9, order != shelf.slots());
     code == 9
 }
+
+/// The ways of damage that go by the points.
+const BY_THE_POINTS: [&str; 2] = ["ties the other way", "dimensions the other way"];
 
 /// Every way of damage is refused, but where it leaves the order as it was.
 #[test]
 fn every_way() {
-    let mut seen = BTreeMap::new();
-    cases::make("damaged orders", 240, |chance, case| {
+    let names = damage::ALL.iter().map(|(name, _)| *name);
+    let mut seen = Seen::new(names.chain(BY_THE_POINTS));
+    cases::make("damaged orders", 480, |chance, case| {
         let shelf = shelf(chance, 1 + case % 4);
-        for (name, make) in damage::ALL {
-            let mut order = shelf.order[..shelf.n].to_vec();
+        let all = damage::ALL.map(|(name, make)| {
+            let mut order = shelf.slots().to_vec();
             make(chance, &mut order);
-            *seen.entry(name).or_insert(0) += u32::from(refused(&shelf, &order));
-        }
+            (name, order)
+        });
         let (k, points) = (shelf.k, &shelf.points);
-        let ties = refused(&shelf, &damage::ties_the_other_way(k, points));
-        *seen.entry("ties the other way").or_insert(0) += u32::from(ties);
-        let turned = refused(&shelf, &damage::dimensions_the_other_way(k, points));
-        *seen.entry("dimensions the other way").or_insert(0) += u32::from(turned);
+        let turned = [
+            damage::ties_the_other_way(k, points),
+            damage::dimensions_the_other_way(k, points),
+        ];
+        let by_the_points = BY_THE_POINTS.into_iter().zip(turned);
+        for (name, order) in all.into_iter().chain(by_the_points) {
+            if refused(&shelf, &order) {
+                seen.count(name);
+            }
+        }
     });
-    for (name, times) in seen {
-        assert!(times > 0, "{name} was never refused");
-    }
+    seen.enough("damaged orders");
 }
 
 /// A right shelf of 2 to 200 points among dead numbers with some faces, in this dimension.
@@ -126,10 +137,16 @@ fn beside_dead_numbers() {
     seen.enough("damaged orders beside dead numbers");
 }
 
-/// The order of before passes or not as the points that are live now say: whichever number of a shelf is withdrawn, and after any other was taken.
+/// The order of before is still the tree or not as the points that are live now say: whichever number of a shelf is withdrawn, and after any
+/// other was taken.
 #[test]
 fn orders_of_before() {
-    let names = ["withdrawn: 0", "withdrawn: 9", "taken: 0", "taken: 9"];
+    let names = [
+        "withdrawn: the tree",
+        "withdrawn: no longer",
+        "taken: the tree",
+        "taken: no longer",
+    ];
     let mut seen = Seen::new(names);
     cases::make("orders of before", 400, |chance, case| {
         let (k, stock) = (1 + case % 4, chance.one_of(&Stock::ALL));
@@ -137,53 +154,60 @@ fn orders_of_before() {
         let last_slot = shelf.slots().last().copied();
         for number in shelf.live_numbers() {
             let (_, after) = changes::withdraw(&shelf.with_number(number));
-            let code = calls::check(&after);
-            assert_eq!(calls::explain(&after).code == 9, code == 9, "{after:?}");
-            assert!(code == 9 || Some(number) == last_slot, "{after:?}");
-            assert!(code == 0 || k > 1 || Some(number) != last_slot, "{after:?}");
-            seen.count(if code == 0 { names[0] } else { names[1] });
+            let still = calls::is_shelf(&after);
+            assert_eq!(calls::explain(&after).code == 9, !still, "{after:?}");
+            assert!(!still || Some(number) == last_slot, "{after:?}");
+            assert!(still || k > 1 || Some(number) != last_slot, "{after:?}");
+            seen.count(if still { names[0] } else { names[1] });
             let again = Lent {
                 point: shelf.point_of(number).to_vec(),
                 ..after
             };
             let (answer, back) = changes::take(&again);
             let same = answer.number == number;
-            let code = calls::check(&back);
-            assert!(!same || code == 0, "{back:?}");
-            seen.count(if code == 0 { names[2] } else { names[3] });
+            let still = calls::is_shelf(&back);
+            assert!(!same || still, "{back:?}");
+            seen.count(if still { names[2] } else { names[3] });
         }
     });
     seen.enough("orders of before");
 }
 
-/// Of all contents of a small order exactly one is accepted. A wrong one is refused before a number that no point has.
+/// Of all contents of a small order exactly one already is the tree, which all others become; the calls that need the tree accept that one
+/// alone. A wrong one is refused before a number that no point has.
 #[test]
 fn all_contents() {
-    cases::make("all contents of small orders", 40, |chance, case| {
-        let (k, n) = (1 + case % 4, case / 4 % 5);
-        let points = (0..k * n).map(|_| chance.between(0, 2) as i32).collect();
-        let shelf = Lent::new(chance, k, points);
-        let accepted = contents(n).into_iter().filter(|order| {
+    let mut seen = Seen::new(["the tree", "any other"]);
+    cases::make("all contents of small orders", 160, |chance, case| {
+        let (k, n, some_dead) = (1 + case % 4, case / 4 % 5, case / 20 % 2 > 0);
+        let shelf = if some_dead {
+            shelves::with_dead(chance, Stock::Ties, k, n)
+        } else {
+            let points = (0..k * n).map(|_| chance.between(0, 2) as i32).collect();
+            calls::shelf(&Lent::new(chance, k, points))
+        };
+        let trees = contents(shelf.v(), shelf.n).into_iter().filter(|order| {
             let call = shelf.with_order(order);
-            let code = calls::check(&call);
-            assert_eq!(calls::list(&call).0.code, code);
-            assert_eq!(calls::screen(&call).code, code);
-            let no_point = call.with_number(n as u32);
-            let expected = if code == 0 { 17 } else { code };
+            let same = calls::is_shelf(&call);
+            assert_eq!(calls::arrange(&call).1, shelf.order);
+            let no_point = call.with_number(call.n as u32);
+            let expected = if same { 17 } else { 9 };
             assert_eq!(calls::explain(&no_point).code, expected);
-            code == 0
+            seen.count(if same { "the tree" } else { "any other" });
+            same
         });
-        assert_eq!(accepted.count(), 1);
+        assert_eq!(trees.count(), 1);
     });
+    seen.enough("all contents of small orders");
 }
 
-/// Every row of n numbers from 0 to n.
-fn contents(n: usize) -> Vec<Vec<u32>> {
+/// Every row of so many numbers from 0 to `most`.
+fn contents(places: usize, most: usize) -> Vec<Vec<u32>> {
     let mut rows = vec![Vec::new()];
-    for _ in 0..n {
+    for _ in 0..places {
         let longer = |row: &Vec<u32>| {
             let row = row.clone();
-            (0..=n as u32).map(move |number| [&row[..], &[number]].concat())
+            (0..=most as u32).map(move |number| [&row[..], &[number]].concat())
         };
         rows = rows.iter().flat_map(longer).collect();
     }

@@ -7,7 +7,7 @@ use compare::lent::Lent;
 
 const A: [i32; 12] = [1, 5, 4, 2, 4, 8, 7, 1, 6, 6, 2, 2];
 
-/// A shelf of these points, built by the library.
+/// A shelf of these points, arranged by the library.
 fn shelf(k: usize, points: &[i32]) -> Lent {
     let mut chance = Chance::new(cases::SEED);
     calls::shelf(&Lent::new(&mut chance, k, points.to_vec()))
@@ -46,7 +46,9 @@ fn small_shelves() {
     assert_eq!(listed(&two, &[1], &[5]).0[2], 2);
     let ties = shelf(1, &[3, 3, 3]);
     assert_eq!(ties.order[..3], [0, 1, 2]);
-    assert_eq!(calls::check(&ties.with_order(&[1, 0, 2])), 9);
+    let wrong = ties.with_order(&[1, 0, 2]);
+    assert_eq!(calls::list(&wrong).0.code, 9);
+    assert_eq!(calls::arrange(&wrong).0.already, 0);
     let one = shelf(2, &[4, 2]);
     assert_eq!(listed(&one, &[1, 1, -1, 0], &[7, -6]), ([0, 1, 0], vec![0]));
     let region = one.with_faces(vec![1, 1, -1, 0], vec![7, -6]);
@@ -62,14 +64,12 @@ fn dimension_and_count() {
         lent.k = k;
         lent.points = vec![0; 2 * k];
         lent.point = vec![0; k];
-        assert_eq!(calls::build(&lent).0, code);
-        assert_eq!(calls::check(&lent), code);
+        assert_eq!(calls::arrange(&lent).0.code, code);
         assert_eq!(calls::list(&lent).0.code, code);
         assert_eq!(calls::place(&lent).code, code);
     }
     let many = Lent::new(&mut Chance::new(cases::SEED), 1, vec![0; 65_536]);
-    assert_eq!(calls::build(&many).0, 2);
-    assert_eq!(calls::check(&many), 2);
+    assert_eq!(calls::arrange(&many).0.code, 2);
     assert_eq!(calls::list(&many).0.code, 2);
 }
 
@@ -80,7 +80,7 @@ fn coordinate_and_component() {
     let mut over = one.clone();
     over.points[0] = 32_768;
     over.point[0] = 32_768;
-    assert_eq!(calls::build(&over).0, 5);
+    assert_eq!(calls::arrange(&over).0.code, 5);
     assert_eq!(calls::place(&over).code, 5);
     for (component, code) in [(-32_767, 0), (-32_768, 8)] {
         let call = one.with_faces(vec![component], vec![0]);

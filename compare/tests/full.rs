@@ -37,7 +37,9 @@ fn full_shelves() {
         let (_, make) = chance.one_of(&damage::ALL);
         let mut slots = shelf.order[..N].to_vec();
         make(chance, &mut slots);
-        calls::check(&shelf.with_order(&slots));
+        let (answer, after) = calls::arrange(&shelf.with_order(&slots));
+        assert_eq!(answer.already == 1, slots == shelf.order[..N]);
+        assert!(after == shelf.order);
         let marked = call.with_marks(faces::marks(chance, h));
         nearness.look(&marked, calls::list(&marked).0.visits);
         assert_eq!(calls::screen(&marked).code, 0);
@@ -76,7 +78,7 @@ fn half_dead_shelves() {
         let (answer, after) = changes::take(&call.with_point(shelf.slots()[0]));
         assert_eq!(answer.code, 0);
         let (code, back) = changes::withdraw(&after.with_number(answer.number));
-        assert_eq!((code, calls::check(&back)), (0, 0));
+        assert!(code == 0 && calls::is_shelf(&back));
     });
 }
 
@@ -176,12 +178,20 @@ fn longest_changes(k: usize, points: &mut [i32]) {
     assert_eq!((answer.code, answer.number), (0, last));
 }
 
+/// Arranges a full shelf of this dimension that has so many live numbers, and then once more what it is already.
+fn arranged_twice(k: usize, points: &[i32], live: &[u8], v: usize) -> Vec<u32> {
+    let mut order = vec![0; v];
+    for already in [0, 1] {
+        let answer = raw::arrange(k, N, points, live, &mut order);
+        assert_eq!((answer.code, answer.already), (0, already));
+    }
+    order
+}
+
 /// Makes the calls on a full shelf of this dimension, every second number of which is dead.
 fn every_second(k: usize, points: &[i32]) {
     let live: Vec<u8> = (0..N).map(|number| (number % 2) as u8).collect();
-    let mut order = vec![0; N / 2];
-    assert_eq!(raw::build(k, N, points, &live, &mut order), 0);
-    assert_eq!(raw::check(k, N, points, &live, &order), 0);
+    let order = arranged_twice(k, points, &live, N / 2);
     let (normals, offsets) = empty_on_a_plane(k);
     let (list, marks) = (&mut order.clone(), &[CLOSED; 32]);
     #[rustfmt::skip]
@@ -198,10 +208,7 @@ fn stack() {
             let mut points: Vec<i32> = (0..k * N)
                 .map(|i| (i * 7_919 % 65_536) as i32 - 32_768)
                 .collect();
-            let mut order = vec![0; N];
-            let live = live::all(N);
-            assert_eq!(raw::build(k, N, &points, &live, &mut order), 0);
-            assert_eq!(raw::check(k, N, &points, &live, &order), 0);
+            let order = arranged_twice(k, &points, &live::all(N), N);
             for mark in [CLOSED, OPEN] {
                 deepest_regions(k, &points, &order, &[mark; 32]);
                 deepest_morning(k, &points, &order, &[mark; 32]);

@@ -15,11 +15,12 @@ fn right(chance: &mut Chance, k: usize, n: usize, h: usize) -> Lent {
     calls::shelf(&lent).with_faces(vec![1; k * h], vec![0; h])
 }
 
-/// Asks what build, check, list and the one-point test answer, with the second program as everywhere. The screen and the explain call
+/// Asks what arrange, list and the one-point test answer, with the second program as everywhere. The screen and the explain call
 /// answer as list does where the list buffer, which they do not take, has room; but where there is no point, explain refuses with 17.
-fn answers(lent: &Lent, build: u32, check: u32, list: u32, place: u32) {
-    assert_eq!(calls::build(lent).0, build, "build of {lent:?}");
-    assert_eq!(calls::check(lent), check, "check of {lent:?}");
+fn answers(lent: &Lent, arrange: u32, list: u32, place: u32) {
+    let arranging = calls::arrange(lent).0;
+    assert_eq!(arranging.code, arrange, "arrange of {lent:?}");
+    assert_eq!(arranging.already == 1, arrange == 0, "order of {lent:?}");
     assert_eq!(calls::list(lent).0.code, list, "list of {lent:?}");
     assert_eq!(calls::place(lent).code, place, "place of {lent:?}");
     if lent.list.len() >= lent.n {
@@ -40,9 +41,9 @@ fn dimension() {
         lent.point = vec![0; k];
         lent.order = vec![0, 1, 2];
         lent.normals = vec![0; k * 2];
-        answers(&lent, code, code, code, code);
+        answers(&lent, code, code, code);
         lent.k = 0;
-        answers(&lent, 1, 1, 1, 1);
+        answers(&lent, 1, 1, 1);
     }
 }
 
@@ -52,14 +53,14 @@ fn most_points() {
     let mut chance = Chance::new(cases::SEED);
     for k in [1, 4] {
         let full = right(&mut chance, k, 65_535, 1);
-        answers(&full, 0, 0, 0, 0);
+        answers(&full, 0, 0, 0);
         let mut over = full;
         over.n += 1;
         over.points.extend(vec![0; k]);
         over.live.push(0);
         over.order.push(65_535);
         over.list.push(0);
-        answers(&over, 2, 2, 2, 0);
+        answers(&over, 2, 2, 0);
     }
 }
 
@@ -69,10 +70,10 @@ fn most_faces() {
     let mut chance = Chance::new(cases::SEED);
     for k in 1..=4 {
         let none = right(&mut chance, k, 9, 0);
-        answers(&none, 0, 0, 0, 0);
-        answers(&none.with_marks(vec![0]), 0, 0, 11, 11);
-        answers(&right(&mut chance, k, 9, 32), 0, 0, 0, 0);
-        answers(&right(&mut chance, k, 9, 33), 0, 0, 6, 6);
+        answers(&none, 0, 0, 0);
+        answers(&none.with_marks(vec![0]), 0, 11, 11);
+        answers(&right(&mut chance, k, 9, 32), 0, 0, 0);
+        answers(&right(&mut chance, k, 9, 33), 0, 6, 6);
     }
 }
 
@@ -82,30 +83,30 @@ fn lengths() {
     let mut chance = Chance::new(cases::SEED);
     for (k, n) in [(1, 1), (2, 5), (3, 64), (4, 300)] {
         let right = right(&mut chance, k, n, 3);
-        answers(&right, 0, 0, 0, 0);
-        let length = |lent: &Lent, other: fn(&mut Lent), codes: [u32; 4]| {
+        answers(&right, 0, 0, 0);
+        let length = |lent: &Lent, other: fn(&mut Lent), codes: [u32; 3]| {
             let mut lent = lent.clone();
             other(&mut lent);
-            answers(&lent, codes[0], codes[1], codes[2], codes[3]);
+            answers(&lent, codes[0], codes[1], codes[2]);
         };
-        length(&right, |lent| lent.points.push(0), [3, 3, 3, 0]);
-        length(&right, |lent| shorten(&mut lent.points), [3, 3, 3, 0]);
-        length(&right, |lent| lent.point.push(0), [0, 0, 0, 3]);
-        length(&right, |lent| shorten(&mut lent.point), [0, 0, 0, 3]);
-        length(&right, |lent| lent.live.push(0), [15, 15, 15, 0]);
-        length(&right, |lent| shorten(&mut lent.live), [15, 15, 15, 0]);
-        length(&right, |lent| lent.live.clear(), [15, 15, 15, 0]);
-        length(&right, |lent| lent.order.push(77), [0, 0, 0, 0]);
-        length(&right, |lent| shorten(&mut lent.order), [4, 4, 4, 0]);
-        length(&right, |lent| lent.list.push(77), [0, 0, 0, 0]);
-        length(&right, |lent| shorten(&mut lent.list), [0, 0, 4, 0]);
-        length(&right, |lent| lent.normals.push(0), [0, 0, 7, 7]);
-        length(&right, |lent| shorten(&mut lent.normals), [0, 0, 7, 7]);
-        length(&right, |lent| lent.offsets.push(0), [0, 0, 7, 7]);
-        length(&right, |lent| shorten(&mut lent.offsets), [0, 0, 7, 7]);
-        length(&right, |lent| lent.marks.push(0), [0, 0, 11, 11]);
-        length(&right, |lent| shorten(&mut lent.marks), [0, 0, 11, 11]);
-        length(&right, |lent| lent.marks.clear(), [0, 0, 11, 11]);
+        length(&right, |lent| lent.points.push(0), [3, 3, 0]);
+        length(&right, |lent| shorten(&mut lent.points), [3, 3, 0]);
+        length(&right, |lent| lent.point.push(0), [0, 0, 3]);
+        length(&right, |lent| shorten(&mut lent.point), [0, 0, 3]);
+        length(&right, |lent| lent.live.push(0), [15, 15, 0]);
+        length(&right, |lent| shorten(&mut lent.live), [15, 15, 0]);
+        length(&right, |lent| lent.live.clear(), [15, 15, 0]);
+        length(&right, |lent| lent.order.push(77), [0, 0, 0]);
+        length(&right, |lent| shorten(&mut lent.order), [4, 4, 0]);
+        length(&right, |lent| lent.list.push(77), [0, 0, 0]);
+        length(&right, |lent| shorten(&mut lent.list), [0, 4, 0]);
+        length(&right, |lent| lent.normals.push(0), [0, 7, 7]);
+        length(&right, |lent| shorten(&mut lent.normals), [0, 7, 7]);
+        length(&right, |lent| lent.offsets.push(0), [0, 7, 7]);
+        length(&right, |lent| shorten(&mut lent.offsets), [0, 7, 7]);
+        length(&right, |lent| lent.marks.push(0), [0, 11, 11]);
+        length(&right, |lent| shorten(&mut lent.marks), [0, 11, 11]);
+        length(&right, |lent| lent.marks.clear(), [0, 11, 11]);
     }
 }
 
@@ -120,8 +121,8 @@ fn coordinates() {
                 let mut lent = right.clone();
                 lent.points[place] = number;
                 lent.point[place % k] = number;
-                let order = calls::build(&lent).1;
-                answers(&lent.with_order(&order), code, code, code, code);
+                let order = calls::arrange(&lent).1;
+                answers(&lent.with_order(&order), code, code, code);
             }
         }
     }
@@ -138,14 +139,14 @@ fn faces() {
             for (number, code) in [(-32_767, 0), (32_767, 0), (-32_768, 8), (32_768, 8)] {
                 let mut lent = right.clone();
                 lent.normals[place] = number;
-                answers(&lent, 0, 0, code, code);
+                answers(&lent, 0, code, code);
             }
         }
         for place in 0..3 {
             for (number, code) in [(-M, 0), (M, 0), (-M - 1, 8), (M + 1, 8)] {
                 let mut lent = right.clone();
                 lent.offsets[place] = number;
-                answers(&lent, 0, 0, code, code);
+                answers(&lent, 0, code, code);
             }
         }
     }
@@ -162,7 +163,7 @@ fn marks() {
                 let mut lent = right.clone();
                 lent.marks[place] = mark;
                 let code = if mark < 2 { 0 } else { 11 };
-                answers(&lent, 0, 0, code, code);
+                answers(&lent, 0, code, code);
             }
         }
     }
@@ -192,7 +193,7 @@ fn no_points() {
     for k in 1..=4 {
         for h in [0, 1, 32] {
             let lent = right(&mut chance, k, 0, h);
-            answers(&lent, 0, 0, 0, 0);
+            answers(&lent, 0, 0, 0);
             assert_eq!(calls::list(&lent).0, hornherder::raw::Listing::default());
             assert_eq!(calls::screen(&lent), hornherder::raw::Screening::default());
         }

@@ -221,14 +221,9 @@ fn room_for_the_live() {
             let code = if places < v { 4 } else { 0 };
             let mut call = shelf.clone();
             call.order = chance.contents(places);
-            let (built, order) = calls::build(&call);
-            assert_eq!(built, code, "{call:?}");
-            let call = if code == 0 {
-                call.with_order(&order)
-            } else {
-                call
-            };
-            assert_eq!(calls::check(&call), code, "{call:?}");
+            let (answer, order) = calls::arrange(&call);
+            assert_eq!(answer.code, code, "{call:?}");
+            let call = call.with_order(&order);
             assert_eq!(calls::screen(&call).code, code, "{call:?}");
             let mut call = shelf.clone();
             call.list = chance.contents(places);
@@ -252,10 +247,10 @@ fn every_byte() {
             for byte in 0..=u8::MAX {
                 let mut call = all.clone();
                 call.live[place] = byte;
-                let (code, order) = calls::build(&call);
-                assert_eq!(code, if byte < 2 { 0 } else { 15 }, "{call:?}");
+                let code = if byte < 2 { 0 } else { 15 };
+                let (answer, order) = calls::arrange(&call);
+                assert_eq!(answer.code, code, "{call:?}");
                 let call = call.with_order(&order);
-                assert_eq!(calls::check(&call), code, "{call:?}");
                 assert_eq!(calls::list(&call).0.code, code, "{call:?}");
                 assert_eq!(calls::screen(&call).code, code, "{call:?}");
                 let other = call.with_number((place as u32 + 1) % 5);
@@ -286,8 +281,9 @@ fn coordinates() {
                 call.points[place] = number;
                 let live = call.live[place / k] == LIVE;
                 let code = if live { 5 } else { 0 };
-                assert_eq!(calls::build(&call).0, code, "{call:?}");
-                assert_eq!(calls::check(&call), code, "{call:?}");
+                let answer = calls::arrange(&call).0;
+                assert_eq!(answer.code, code, "{call:?}");
+                assert_eq!(answer.already == 1, code == 0, "{call:?}");
                 assert_eq!(calls::list(&call).0.code, code, "{call:?}");
                 assert_eq!(calls::screen(&call).code, code, "{call:?}");
                 let one = [call.clone()];

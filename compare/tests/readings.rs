@@ -197,7 +197,7 @@ fn points(chance: &mut Chance, count: usize) -> Vec<i32> {
     points
 }
 
-/// Points made are never refused: build takes them, and list, screen and the one-point test agree on the shelf.
+/// Points made are never refused: arrange takes them, and list, screen and the one-point test agree on the shelf.
 #[test]
 fn shelves_of_points_made() {
     cases::make("shelves of points made", 300, |chance, _| {

@@ -1,17 +1,25 @@
-//! The twelve calls, and functions that look at the visits behind a list.
+//! The eleven calls, and functions that look at the visits behind a list.
 
 use crate::found::{found_number, visits_of_screen};
 use crate::joined::{counts_of_regions, faces_of_regions, places_of_regions};
 use crate::lists::{inside_and_outside, places};
 use crate::live::{lowest_dead, total_live, DEAD, LIVE};
 use crate::margin::{face_of_margin, margin};
-use crate::order::built_order;
+use crate::order::{built_order, is_tree};
 use crate::reading::{point_of_reading, Colour, Reading};
 use crate::reason::{margin_to_face, why};
 use crate::refusals;
 use crate::region::{faces, inside};
 use crate::shelf::{coordinates_of, Shelf};
 use crate::visits;
+
+/// The answer of arrange: already is 1 where the order was the tree before, else
+/// 0; on a refusal it is 0.
+#[derive(Clone, Copy, Debug, Default, PartialEq, Eq)]
+pub struct Arranging {
+    pub code: u32,
+    pub already: u32,
+}
 
 /// The answer of list; on a refusal all but the code is 0.
 #[derive(Clone, Copy, Debug, Default, PartialEq, Eq)]
@@ -70,18 +78,21 @@ pub struct Taking {
     pub number: u32,
 }
 
-/// Writes the order of the live points into the first v places of `order`.
-pub fn build(k: usize, n: usize, points: &[i32], live: &[u8], order: &mut [u32]) -> u32 {
-    let code = refusals::of_build(k, n, points, live, order);
-    if code == 0 {
+/// Makes the first v places of `order` the tree of the live points, and says
+/// whether they already were it. Where they were, nothing is written.
+pub fn arrange(k: usize, n: usize, points: &[i32], live: &[u8], order: &mut [u32]) -> Arranging {
+    let code = refusals::of_arrange(k, n, points, live, order);
+    if code != 0 {
+        return Arranging { code, already: 0 };
+    }
+    let already = is_tree(k, points, live, order);
+    if !already {
         order[..total_live(live)].copy_from_slice(&built_order(k, points, live));
     }
-    code
-}
-
-/// Says 0 exactly when the first v places of `order` are the built order.
-pub fn check(k: usize, n: usize, points: &[i32], live: &[u8], order: &[u32]) -> u32 {
-    refusals::of_check(k, n, points, live, order)
+    Arranging {
+        code: 0,
+        already: u32::from(already),
+    }
 }
 
 /// Writes the inside and outside numbers into the first v places of `list`.

@@ -20,8 +20,8 @@ pub mod visits;
 
 pub use bound::{binary_digits, is_square, s};
 pub use calls::{
-    build, check, explain, list, list_regions, open_slots, place, point_from_colour,
-    point_from_grey, point_from_nothing, screen, take, visits_of_face, visits_of_region, withdraw,
+    arrange, explain, list, list_regions, open_slots, place, point_from_colour, point_from_grey,
+    point_from_nothing, screen, take, visits_of_face, visits_of_region, withdraw, Arranging,
     Explaining, Listing, Making, Placing, Screening, Taking,
 };
 pub use text::shelf_text;

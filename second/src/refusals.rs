@@ -112,8 +112,8 @@ pub fn number_wrong(live: &[u8], number: u32) -> bool {
     !belongs(live, number)
 }
 
-/// What build returns: tests 1 to 3, then 15, then 4 and 5.
-pub fn of_build(k: usize, n: usize, points: &[i32], live: &[u8], order: &[u32]) -> u32 {
+/// What arrange returns: tests 1 to 3, then 15, then 4 and 5.
+pub fn of_arrange(k: usize, n: usize, points: &[i32], live: &[u8], order: &[u32]) -> u32 {
     first_held(&[
         (1, &|| dimension_wrong(k)),
         (2, &|| too_many_points(n)),
@@ -121,19 +121,6 @@ pub fn of_build(k: usize, n: usize, points: &[i32], live: &[u8], order: &[u32]) 
         (15, &|| live_wrong(n, live)),
         (4, &|| shorter(order.len(), live)),
         (5, &|| live_coordinate_wrong(k, points, live)),
-    ])
-}
-
-/// What check returns: the tests of build, then 9.
-pub fn of_check(k: usize, n: usize, points: &[i32], live: &[u8], order: &[u32]) -> u32 {
-    first_held(&[
-        (1, &|| dimension_wrong(k)),
-        (2, &|| too_many_points(n)),
-        (3, &|| not_times_long(points.len(), k, n)),
-        (15, &|| live_wrong(n, live)),
-        (4, &|| shorter(order.len(), live)),
-        (5, &|| live_coordinate_wrong(k, points, live)),
-        (9, &|| !is_tree(k, points, live, order)),
     ])
 }
 

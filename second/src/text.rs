@@ -1,6 +1,6 @@
 //! The program's text: parse, run, print.
 
-use crate::calls::{build, list, Listing};
+use crate::calls::{arrange, list, Listing};
 use crate::live::LIVE;
 use crate::region::CLOSED;
 
@@ -33,7 +33,7 @@ pub fn shelf_text(input: &[u8]) -> Vec<u8> {
     }
 }
 
-/// Builds and lists: the order, the numbers of the answer and the list, or the
+/// Arranges and lists: the order, the numbers of the answer and the list, or the
 /// number of the refusal. The program passes all points as live and all faces
 /// as closed.
 fn run(text: &Text) -> Result<(Vec<u32>, Listing, Vec<u32>), u32> {
@@ -41,9 +41,9 @@ fn run(text: &Text) -> Result<(Vec<u32>, Listing, Vec<u32>), u32> {
     let mut order = vec![0; n];
     let mut buffer = vec![0; n];
     let live = vec![LIVE; n];
-    let code = build(k, n, &text.points, &live, &mut order);
-    if code != 0 {
-        return Err(code);
+    let arranging = arrange(k, n, &text.points, &live, &mut order);
+    if arranging.code != 0 {
+        return Err(arranging.code);
     }
     let marks = vec![CLOSED; h];
     let (points, normals, offsets) = (&text.points, &text.normals, &text.offsets);

@@ -1,7 +1,7 @@
 //! The definitions themselves, held against small and random shelves, every point
 //! live.
 
-use second::{build, check, is_square, list, place, s, visits_of_face, Listing};
+use second::{arrange, is_square, list, place, s, visits_of_face, Listing};
 
 /// A simple row of numbers that look random.
 struct Dice(u64);
@@ -52,7 +52,8 @@ fn orders(n: u32) -> Vec<Vec<u32>> {
     all
 }
 
-/// Of all orders of a small shelf exactly one is a tree, and it is the built one.
+/// Of all orders of a small shelf exactly one is a tree. Every one is arranged into
+/// it, and it alone already was it.
 #[test]
 fn exactly_one_order() {
     let mut dice = Dice(11);
@@ -60,13 +61,16 @@ fn exactly_one_order() {
         for k in 1..=4 {
             let points = dice.row(k * n, 2);
             let mut order = vec![9; n];
-            assert_eq!(build(k, n, &points, &vec![1; n], &mut order), 0);
+            assert_eq!(arrange(k, n, &points, &vec![1; n], &mut order).code, 0);
             let all = orders(n as u32);
             let trees: Vec<_> = all.iter().filter(|o| is_tree(k, &points, o, 0)).collect();
             assert_eq!(trees, [&order]);
             for other in &all {
-                let code = if *other == order { 0 } else { 9 };
-                assert_eq!(check(k, n, &points, &vec![1; n], other), code);
+                let mut after = other.clone();
+                let answer = arrange(k, n, &points, &vec![1; n], &mut after);
+                let already = u32::from(*other == order);
+                assert_eq!((answer.code, answer.already), (0, already));
+                assert_eq!(after, order);
             }
         }
     }
@@ -76,11 +80,13 @@ fn exactly_one_order() {
 #[test]
 fn first_contents_do_not_matter() {
     let points = Dice(5).row(60, 4);
-    let mut first = vec![0; 20];
-    let mut second = vec![u32::MAX; 20];
-    build(3, 20, &points, &[1; 20], &mut first);
-    build(3, 20, &points, &[1; 20], &mut second);
-    assert_eq!(first, second);
+    let arranged = |number: u32| {
+        let mut order = vec![number; 20];
+        let answer = arrange(3, 20, &points, &[1; 20], &mut order);
+        assert_eq!((answer.code, answer.already), (0, 0));
+        order
+    };
+    assert_eq!(arranged(0), arranged(u32::MAX));
 }
 
 /// A random shelf and region, small enough to have ties.
@@ -93,7 +99,7 @@ struct Thrown {
     marks: Vec<u8>,
 }
 
-/// Throws a shelf with its built order and a region of closed and open faces;
+/// Throws a shelf with its arranged order and a region of closed and open faces;
 /// square faces on demand.
 fn thrown(dice: &mut Dice, square: bool) -> Thrown {
     let k = dice.throw(1, 4) as usize;
@@ -101,7 +107,7 @@ fn thrown(dice: &mut Dice, square: bool) -> Thrown {
     let h = dice.throw(0, 5) as usize;
     let points = dice.row(k * n, 20);
     let mut order = vec![0; n];
-    assert_eq!(build(k, n, &points, &vec![1; n], &mut order), 0);
+    assert_eq!(arrange(k, n, &points, &vec![1; n], &mut order).code, 0);
     let mut normals = dice.row(k * h, 3);
     for face in 0..h {
         let kept = dice.throw(0, k as i64 - 1) as usize;

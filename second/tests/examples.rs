@@ -1,7 +1,7 @@
 //! The twelve given examples, with every point live and every face closed, and the
 //! rows of S.
 
-use second::{build, check, list, open_slots, place, s, screen, shelf_text};
+use second::{arrange, list, open_slots, place, s, screen, shelf_text};
 use second::{visits_of_face, Listing};
 
 const A: [i32; 12] = [1, 5, 4, 2, 4, 8, 7, 1, 6, 6, 2, 2];
@@ -11,18 +11,18 @@ const TWO_NORMALS: [i32; 4] = [1, 1, -1, 0];
 const TWO_OFFSETS: [i64; 2] = [7, -6];
 const TWO_CLOSED: [u8; 2] = [0, 0];
 
-/// Builds the order of these points, which must be done.
-fn built(k: usize, points: &[i32]) -> Vec<u32> {
+/// Arranges these points, which must be done, and gives the order.
+fn arranged(k: usize, points: &[i32]) -> Vec<u32> {
     let n = points.len() / k;
     let (live, mut order) = (vec![1; n], vec![77; n]);
-    assert_eq!(build(k, n, points, &live, &mut order), 0);
-    assert_eq!(check(k, n, points, &live, &order), 0);
+    assert_eq!(arrange(k, n, points, &live, &mut order).code, 0);
+    assert_eq!(arrange(k, n, points, &live, &mut order).already, 1);
     order
 }
 
-/// Lists a built shelf: the numbers of the answer and the list.
+/// Lists a arranged shelf: the numbers of the answer and the list.
 fn listed(k: usize, points: &[i32], normals: &[i32], offsets: &[i64]) -> (Listing, Vec<u32>) {
-    let order = built(k, points);
+    let order = arranged(k, points);
     let (n, h) = (order.len(), offsets.len());
     let (marks, mut places) = (vec![0; h], vec![88; n]);
     let answer = list(
@@ -53,7 +53,7 @@ fn done(inside: u32, outside: u32, visits: u32) -> Listing {
 /// Example 1.
 #[test]
 fn example_1_order_of_a() {
-    assert_eq!(built(2, &A), A_ORDER);
+    assert_eq!(arranged(2, &A), A_ORDER);
 }
 
 /// Example 2, and the box of slot 0 that alone is settled.
@@ -132,7 +132,7 @@ fn example_6_no_faces() {
 /// Example 7.
 #[test]
 fn example_7_bound_reached() {
-    assert_eq!(built(1, &[0, 10]), [0, 1]);
+    assert_eq!(arranged(1, &[0, 10]), [0, 1]);
     assert_eq!(listed(1, &[0, 10], &[1], &[5]).0, done(1, 1, 2));
     assert_eq!(s(2, 1), 2);
 }
@@ -140,8 +140,12 @@ fn example_7_bound_reached() {
 /// Example 8.
 #[test]
 fn example_8_ties() {
-    assert_eq!(built(1, &[3, 3, 3]), [0, 1, 2]);
-    assert_eq!(check(1, 3, &[3, 3, 3], &[1; 3], &[1, 0, 2]), 9);
+    assert_eq!(arranged(1, &[3, 3, 3]), [0, 1, 2]);
+    let answer = screen(1, 3, 0, &[3, 3, 3], &[1; 3], &[1, 0, 2], &[], &[], &[]);
+    assert_eq!(answer.code, 9);
+    let mut order = [1, 0, 2];
+    let answer = arrange(1, 3, &[3, 3, 3], &[1; 3], &mut order);
+    assert_eq!((answer.code, answer.already, order), (0, 0, [0, 1, 2]));
 }
 
 /// Example 9.
@@ -157,8 +161,10 @@ fn example_9_one_point() {
 #[test]
 fn example_10_dimension_and_count() {
     for (k, code) in [(0, 1), (1, 0), (4, 0), (5, 1)] {
-        assert_eq!(build(k, 2, &vec![0; 2 * k], &[1; 2], &mut [9, 9]), code);
-        assert_eq!(check(k, 2, &vec![0; 2 * k], &[1; 2], &[0, 1]), code);
+        assert_eq!(
+            arrange(k, 2, &vec![0; 2 * k], &[1; 2], &mut [9, 9]).code,
+            code
+        );
         let points = vec![0; 2 * k];
         let answer = list(
             k,
@@ -178,17 +184,15 @@ fn example_10_dimension_and_count() {
         assert_eq!(answer.code, code);
     }
     let mut order = vec![0; 65_536];
-    assert_eq!(
-        build(1, 65_536, &vec![0; 65_536], &vec![1; 65_536], &mut order),
-        2
-    );
+    let answer = arrange(1, 65_536, &vec![0; 65_536], &vec![1; 65_536], &mut order);
+    assert_eq!(answer.code, 2);
 }
 
 /// Example 11.
 #[test]
 fn example_11_coordinate_and_component() {
-    assert_eq!(build(1, 1, &[32_767], &[1], &mut [0]), 0);
-    assert_eq!(build(1, 1, &[32_768], &[1], &mut [0]), 5);
+    assert_eq!(arrange(1, 1, &[32_767], &[1], &mut [0]).code, 0);
+    assert_eq!(arrange(1, 1, &[32_768], &[1], &mut [0]).code, 5);
     assert_eq!(place(1, 1, &[0], &[-32_767], &[0], &[0]).code, 0);
     assert_eq!(place(1, 1, &[0], &[-32_768], &[0], &[0]).code, 8);
 }

@@ -2,7 +2,7 @@
 //! reason, refusals, and random shelves against list, the open slots and a walk
 //! from the root.
 
-use second::{build, explain, list, open_slots, Explaining};
+use second::{arrange, explain, list, open_slots, Explaining};
 
 const A: [i32; 12] = [1, 5, 4, 2, 4, 8, 7, 1, 6, 6, 2, 2];
 const TWO_NORMALS: [i32; 4] = [1, 1, -1, 0];
@@ -13,18 +13,18 @@ const LAST_OFFSET: i64 = 8_589_934_592;
 /// A region: normals, offsets and marks.
 type Region<'a> = (&'a [i32], &'a [i64], &'a [u8]);
 
-/// Builds the order of these points, which must be done.
-fn built(k: usize, points: &[i32]) -> Vec<u32> {
+/// Arranges these points, which must be done, and gives the order.
+fn arranged(k: usize, points: &[i32]) -> Vec<u32> {
     let n = points.len() / k;
     let mut order = vec![77; n];
-    assert_eq!(build(k, n, points, &vec![1; n], &mut order), 0);
+    assert_eq!(arrange(k, n, points, &vec![1; n], &mut order).code, 0);
     order
 }
 
-/// Explains one number of a built shelf.
+/// Explains one number of a arranged shelf.
 fn explained(k: usize, points: &[i32], region: Region, number: u32) -> Explaining {
     let (normals, offsets, marks) = region;
-    let order = built(k, points);
+    let order = arranged(k, points);
     let (n, h) = (order.len(), offsets.len());
     let live = vec![1; n];
     explain(
@@ -476,7 +476,7 @@ fn greatest_counts_are_refused() {
     assert_eq!(code(4, 0, most / 4 + 1), 6);
 }
 
-/// One random case: a shelf with its built order and a region.
+/// One random case: a shelf with its arranged order and a region.
 struct Case {
     k: usize,
     points: Vec<i32>,
@@ -576,7 +576,7 @@ fn cases() -> Vec<Case> {
         let marks = thrown(&mut state, h, 0, 1);
         Case {
             k,
-            order: built(k, &points),
+            order: arranged(k, &points),
             points,
             normals: narrow(thrown(&mut state, k * h, -a, a)),
             offsets: thrown(&mut state, h, least_m, greatest_m),

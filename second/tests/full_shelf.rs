@@ -1,6 +1,6 @@
 //! Full shelves: 65,535 live points and 32 faces in each dimension.
 
-use second::{build, check, list, s, screen};
+use second::{arrange, list, s, screen};
 use std::time::Instant;
 
 const N: usize = 65_535;
@@ -15,8 +15,8 @@ fn coordinates(count: usize) -> Vec<i32> {
     (0..count).map(next).collect()
 }
 
-/// Builds, checks, lists and screens a full shelf with 32 square faces, closed
-/// and open by turns, and shows the time.
+/// Arranges twice, lists and screens a full shelf with 32 square faces, closed and
+/// open by turns, and shows the time.
 #[test]
 fn full_shelves() {
     for k in 1..=4 {
@@ -25,9 +25,11 @@ fn full_shelves() {
         let mut order = vec![0; N];
         let mut places = vec![0; N];
         let start = Instant::now();
-        assert_eq!(build(k, N, &points, &live, &mut order), 0);
-        let built = start.elapsed();
-        assert_eq!(check(k, N, &points, &live, &order), 0);
+        assert_eq!(arrange(k, N, &points, &live, &mut order).code, 0);
+        let arranged = start.elapsed();
+        let before = order.clone();
+        assert_eq!(arrange(k, N, &points, &live, &mut order).already, 1);
+        assert_eq!(order, before);
         let normals: Vec<i32> = (0..32 * k)
             .map(|i| if i % k == (i / k) % k { 32_767 } else { 0 })
             .collect();
@@ -47,7 +49,7 @@ fn full_shelves() {
             &mut places,
         );
         println!(
-            "k {k}: build {built:?}, list {:?}, {answer:?}",
+            "k {k}: arrange {arranged:?}, list {:?}, {answer:?}",
             start.elapsed()
         );
         assert_eq!(answer.code, 0);

@@ -1,8 +1,8 @@
 //! Dead numbers in every call on a shelf: worked examples, refusals, and random
 //! shelves against the same shelves without their dead points.
 
-use second::{build, check, explain, is_square, list, list_regions, open_slots, s, screen};
-use second::{visits_of_face, Explaining, Listing, Screening};
+use second::{arrange, explain, is_square, list, list_regions, open_slots, s, screen};
+use second::{visits_of_face, Arranging, Explaining, Listing, Screening};
 
 const A: [i32; 12] = [1, 5, 4, 2, 4, 8, 7, 1, 6, 6, 2, 2];
 
@@ -11,8 +11,8 @@ const A: [i32; 12] = [1, 5, 4, 2, 4, 8, 7, 1, 6, 6, 2, 2];
 const ANY: [i32; 8] = [i32::MIN, -32_769, -32_768, -1, 0, 32_767, 32_768, i32::MAX];
 
 /// The arguments of all calls on one shelf, with what their buffers hold before:
-/// `room` is lent to build and `order` to the others. The list of several regions
-/// has two: this one, then one with no faces.
+/// `room` is lent to arrange alone and `order` to all calls. The list of several
+/// regions has two: this one, then one with no faces.
 #[derive(Clone)]
 struct Lent {
     k: usize,
@@ -29,12 +29,12 @@ struct Lent {
     counts: Vec<u32>,
 }
 
-/// What all calls on one shelf answer, with their buffers afterwards: explain for
-/// every number below n and the two after.
+/// What all calls on one shelf answer, with their buffers afterwards: arrange for
+/// `room` and again for `order`, explain for every number below n and the two after.
 #[derive(Clone, Debug, PartialEq)]
 struct Answers {
-    build: (u32, Vec<u32>),
-    check: u32,
+    arrange: (Arranging, Vec<u32>),
+    again: (Arranging, Vec<u32>),
     list: (Listing, Vec<u32>),
     screen: Screening,
     explain: Vec<Explaining>,
@@ -48,12 +48,12 @@ fn live_numbers(live: &[u8]) -> Vec<u32> {
     all.filter(|&number| live[number as usize] == 1).collect()
 }
 
-/// The calls for this shelf with its built order, which must be done, and this
+/// The calls for this shelf with its arranged order, which must be done, and this
 /// region, every face closed. Every buffer has more places than it needs.
 fn lent(k: usize, points: &[i32], live: &[u8], normals: &[i32], offsets: &[i64]) -> Lent {
     let n = live.len();
     let mut order = vec![70; n + 1];
-    assert_eq!(build(k, n, points, live, &mut order), 0);
+    assert_eq!(arrange(k, n, points, live, &mut order).code, 0);
     Lent {
         k,
         n,
@@ -71,16 +71,21 @@ fn lent(k: usize, points: &[i32], live: &[u8], normals: &[i32], offsets: &[i64])
 }
 
 impl Lent {
-    /// The answer of build, and its order afterwards.
-    fn built(&self) -> (u32, Vec<u32>) {
-        let mut room = self.room.clone();
-        let code = build(self.k, self.n, &self.points, &self.live, &mut room);
-        (code, room)
+    /// The answer of arrange for this order, and the order afterwards.
+    fn arranged(&self, order: &[u32]) -> (Arranging, Vec<u32>) {
+        let mut order = order.to_vec();
+        let answer = arrange(self.k, self.n, &self.points, &self.live, &mut order);
+        (answer, order)
     }
 
-    /// The answer of check.
-    fn checked(&self) -> u32 {
-        check(self.k, self.n, &self.points, &self.live, &self.order)
+    /// Asks that arrange says that the order already was the tree, and writes
+    /// nothing.
+    fn is_arranged(&self) {
+        let already = Arranging {
+            code: 0,
+            already: 1,
+        };
+        assert_eq!(self.arranged(&self.order), (already, self.order.clone()));
     }
 
     /// The answer of list, and its buffer afterwards.
@@ -171,8 +176,8 @@ impl Lent {
     fn answers(&self) -> Answers {
         let numbers = 0..self.n as u32 + 2;
         Answers {
-            build: self.built(),
-            check: self.checked(),
+            arrange: self.arranged(&self.room),
+            again: self.arranged(&self.order),
             list: self.listed(),
             screen: self.screened(),
             explain: numbers.map(|number| self.explained(number)).collect(),
@@ -182,16 +187,17 @@ impl Lent {
     }
 
     /// Asks that all calls refuse with this number, with zeros and nothing
-    /// written; build does so only for a number that is among its tests.
+    /// written. Where it is 9, arrange does not: it makes the order the tree.
     fn refuses(&self, code: u32) {
-        let build = match code {
-            9 => self.built(),
-            _ => (code, self.room.clone()),
+        let refusal = Arranging { code, already: 0 };
+        let (arrange, again) = match code {
+            9 => (self.arranged(&self.room), self.made_tree()),
+            _ => ((refusal, self.room.clone()), (refusal, self.order.clone())),
         };
         let (listing, screening) = (Listing::default(), Screening::default());
         let refusal = Answers {
-            build,
-            check: code,
+            arrange,
+            again,
             list: (Listing { code, ..listing }, self.list.clone()),
             screen: Screening { code, ..screening },
             explain: vec![not_explained(code); self.n + 2],
@@ -199,6 +205,14 @@ impl Lent {
             open: Err(code),
         };
         assert_eq!(self.answers(), refusal);
+    }
+
+    /// What arrange gives for an order that is not the tree: the tree of `room`
+    /// in the first v places, the later ones as they were.
+    fn made_tree(&self) -> (Arranging, Vec<u32>) {
+        let v = live_numbers(&self.live).len();
+        let tree = &self.arranged(&self.room).1[..v];
+        (Arranging::default(), [tree, &self.order[v..]].concat())
     }
 }
 
@@ -237,7 +251,7 @@ fn done(inside: u32, outside: u32, visits: u32) -> Listing {
 fn second_of_two_withdrawn() {
     let mut two = lent(1, &[0, 10], &[1, 0], &[1], &[5]);
     two.order = vec![0, 1];
-    assert_eq!(two.checked(), 0);
+    two.is_arranged();
     assert_eq!(two.listed(), (done(0, 1, 0), vec![0, 88, 88]));
     assert_eq!(two.screened(), Screening::default());
     assert_eq!(two.explained(0), explained(3, 0, -5));
@@ -255,7 +269,7 @@ fn first_of_two_withdrawn() {
     two.order = vec![0, 1];
     two.refuses(9);
     two.order = vec![1, 0];
-    assert_eq!(two.checked(), 0);
+    two.is_arranged();
     assert_eq!(two.listed(), (done(1, 0, 0), vec![1, 88, 88]));
     assert_eq!(two.screened().number, 1);
     assert_eq!(two.explained(0), not_explained(17));
@@ -269,8 +283,9 @@ fn first_of_two_withdrawn() {
 fn shelf_a_without_number_3() {
     let a = lent(2, &A, &[1, 1, 1, 0, 1, 1], &[1, 0], &[5]);
     let answers = a.answers();
-    assert_eq!(answers.build, (0, vec![5, 0, 1, 4, 2, 77, 77]));
-    assert_eq!(answers.check, 0);
+    let tree = vec![5, 0, 1, 4, 2, 77, 77];
+    assert_eq!(answers.arrange, (Arranging::default(), tree));
+    a.is_arranged();
     let places = vec![4, 2, 1, 0, 5, 88, 88];
     assert_eq!(answers.list, (done(1, 4, 3), places));
     let screening = answers.screen;
@@ -329,9 +344,13 @@ fn all_dead() {
             dead.list.clear();
             dead.lists.clear();
             dead.counts.truncate(6);
+            let already = Arranging {
+                code: 0,
+                already: 1,
+            };
             let nothing = Answers {
-                build: (0, vec![]),
-                check: 0,
+                arrange: (already, vec![]),
+                again: (already, vec![]),
                 list: (Listing::default(), vec![]),
                 screen: Screening::default(),
                 explain: vec![not_explained(17); n + 2],
@@ -379,7 +398,7 @@ fn coordinates_of_live_numbers_only() {
                 lent.refuses(5);
                 lent.live[number] = 0;
             }
-            assert_eq!(lent.built().0, 0);
+            assert_eq!(lent.arranged(&lent.room).0.code, 0);
         }
     }
 }
@@ -390,7 +409,7 @@ fn dead_coordinates_count_again() {
     for number in [0, 3, 6] {
         let mut lent = four_of_seven();
         lent.points[2 * number] = 32_768;
-        assert_eq!(lent.checked(), 0);
+        lent.is_arranged();
         lent.live[number] = 1;
         lent.refuses(5);
     }
@@ -407,7 +426,7 @@ fn live_bytes_not_n_long() {
         }
     }
     let mut empty = lent(2, &[], &[], &[1, 1], &[7]);
-    assert_eq!(empty.checked(), 0);
+    empty.is_arranged();
     empty.live = vec![0];
     empty.refuses(15);
 }
@@ -501,7 +520,8 @@ fn places_for_the_live_numbers() {
     exact.list.truncate(4);
     exact.lists.truncate(8);
     exact.counts.truncate(6);
-    assert_eq!((exact.built().0, exact.checked()), (0, 0));
+    assert_eq!(exact.arranged(&exact.room).0.code, 0);
+    exact.is_arranged();
     assert_eq!((exact.listed().0.code, exact.listed_regions().0), (0, 0));
     let shorter = |change: fn(&mut Lent)| {
         let mut lent = exact.clone();
@@ -533,7 +553,8 @@ fn every_length_for_every_v() {
             lent.order.resize(length, 70);
             lent.room.truncate(length);
             let code = if length < v { 4 } else { 0 };
-            assert_eq!((lent.built().0, lent.checked()), (code, code));
+            assert_eq!(lent.arranged(&lent.room).0.code, code);
+            assert_eq!(lent.arranged(&lent.order).0.code, code);
             lent.order.resize(7, 70);
             if code == 0 {
                 lent.list.truncate(length);
@@ -545,13 +566,14 @@ fn every_length_for_every_v() {
     }
 }
 
-/// Places of the order from v on are not read, whatever they hold.
+/// Places of the order from v on are neither read nor written, whatever they hold.
 #[test]
 fn later_places_are_not_read() {
-    let answers = four_of_seven().answers();
+    let mut answers = four_of_seven().answers();
     for later in [0, 1, 3, 6, 7, u32::MAX] {
         let mut lent = four_of_seven();
         lent.order[4..].fill(later);
+        answers.again.1[4..].fill(later);
         assert_eq!(lent.answers(), answers);
     }
 }
@@ -588,17 +610,19 @@ fn orders_changed_over() {
 }
 
 /// The order of all seven with the dead numbers among them is 9, though it was
-/// right before they were withdrawn; built anew it passes.
+/// right before they were withdrawn; arranged anew it passes.
 #[test]
 fn order_from_before() {
     let mut lent = four_of_seven();
     lent.live = vec![1; 7];
-    lent.order = lent.built().1;
-    assert_eq!(lent.checked(), 0);
+    lent.order = lent.arranged(&lent.room).1;
+    lent.is_arranged();
     lent.live = four_of_seven().live;
     lent.refuses(9);
-    lent.order = lent.built().1;
-    assert_eq!(lent.answers(), four_of_seven().answers());
+    lent.order = lent.arranged(&lent.order).1;
+    lent.is_arranged();
+    assert_eq!(lent.order[..4], four_of_seven().order[..4]);
+    assert_eq!(lent.listed(), four_of_seven().listed());
 }
 
 /// 17 for the dead numbers and those not below n, and for no others.
@@ -721,12 +745,14 @@ fn without_dead(case: &Lent) -> Lent {
     let point = |&number: &u32| case.points.chunks(k).nth(number as usize).unwrap();
     let points: Vec<i32> = old.iter().flat_map(point).copied().collect();
     let live = vec![1; old.len()];
+    let anew = lent(k, &points, &live, &case.normals, &case.offsets);
     Lent {
+        order: [&anew.order[..old.len()], &case.order[old.len()..]].concat(),
         room: case.room.clone(),
         list: case.list.clone(),
         lists: case.lists.clone(),
         marks: case.marks.clone(),
-        ..lent(k, &points, &live, &case.normals, &case.offsets)
+        ..anew
     }
 }
 
@@ -740,7 +766,8 @@ fn numbered_as_before(case: &Lent, mut anew: Answers) -> Answers {
             *place = old[*place as usize];
         }
     };
-    turn(&mut anew.build.1[..v]);
+    turn(&mut anew.arrange.1[..v]);
+    turn(&mut anew.again.1[..v]);
     turn(&mut anew.list.1[..v]);
     turn(&mut anew.list_regions.1[..2 * v]);
     if anew.screen.found == 1 {
@@ -759,7 +786,7 @@ fn numbered_as_before(case: &Lent, mut anew: Answers) -> Answers {
 fn equal_to_the_shelf_without_its_dead() {
     for case in cases() {
         let anew = without_dead(&case).answers();
-        assert_eq!((anew.build.0, anew.check, anew.list.0.code), (0, 0, 0));
+        assert_eq!((anew.again.0.already, anew.list.0.code), (1, 0));
         assert_eq!(case.answers(), numbered_as_before(&case, anew));
     }
 }
@@ -827,7 +854,7 @@ fn rows(length: usize, most: u32) -> Vec<Vec<u32>> {
 }
 
 /// For all live bytes of four numbers: of all rows of v numbers from 0 to 4
-/// exactly one passes, and it is the built one.
+/// exactly one already is the tree, and every one is arranged into it.
 #[test]
 fn exactly_one_order() {
     let mut state = 127;
@@ -837,10 +864,14 @@ fn exactly_one_order() {
         for k in 1..=4 {
             let points = thrown_points(&mut state, k, &live);
             let mut order = vec![77; v];
-            assert_eq!(build(k, 4, &points, &live, &mut order), 0);
-            let mut passed = rows(v, 4);
-            passed.retain(|row| check(k, 4, &points, &live, row) == 0);
-            assert_eq!(passed, [order]);
+            assert_eq!(arrange(k, 4, &points, &live, &mut order).code, 0);
+            for row in rows(v, 4) {
+                let mut after = row.clone();
+                let answer = arrange(k, 4, &points, &live, &mut after);
+                let already = u32::from(row == order);
+                assert_eq!((answer.code, answer.already), (0, already));
+                assert_eq!(after, order);
+            }
         }
     }
 }

@@ -1,7 +1,7 @@
 //! Closed and open faces, every point live: worked examples, the marks refused, and
 //! random shelves.
 
-use second::{build, list, open_slots, place, screen, visits_of_face, visits_of_region};
+use second::{arrange, list, open_slots, place, screen, visits_of_face, visits_of_region};
 use second::{Listing, Placing, Screening};
 
 const A: [i32; 12] = [1, 5, 4, 2, 4, 8, 7, 1, 6, 6, 2, 2];
@@ -11,18 +11,18 @@ const A_ORDER: [u32; 6] = [1, 5, 0, 2, 3, 4];
 /// A region: normals, offsets and marks.
 type Region<'a> = (&'a [i32], &'a [i64], &'a [u8]);
 
-/// Builds the order of these points, which must be done.
-fn built(k: usize, points: &[i32]) -> Vec<u32> {
+/// Arranges these points, which must be done, and gives the order.
+fn arranged(k: usize, points: &[i32]) -> Vec<u32> {
     let n = points.len() / k;
     let mut order = vec![77; n];
-    assert_eq!(build(k, n, points, &vec![1; n], &mut order), 0);
+    assert_eq!(arrange(k, n, points, &vec![1; n], &mut order).code, 0);
     order
 }
 
-/// Lists a built shelf: inside, outside and visits, and the list.
+/// Lists a arranged shelf: inside, outside and visits, and the list.
 fn listed(k: usize, points: &[i32], region: Region) -> ([u32; 3], Vec<u32>) {
     let (normals, offsets, marks) = region;
-    let order = built(k, points);
+    let order = arranged(k, points);
     let (n, h) = (order.len(), offsets.len());
     let mut places = vec![88; n];
     let lent = &mut places;
@@ -42,10 +42,10 @@ fn listed(k: usize, points: &[i32], region: Region) -> ([u32; 3], Vec<u32>) {
     ([answer.inside, answer.outside, answer.visits], places)
 }
 
-/// Screens a built shelf: found, number and visits.
+/// Screens a arranged shelf: found, number and visits.
 fn screened(k: usize, points: &[i32], region: Region) -> [u32; 3] {
     let (normals, offsets, marks) = region;
-    let order = built(k, points);
+    let order = arranged(k, points);
     let (n, h) = (order.len(), offsets.len());
     let answer = screen(
         k,

@@ -2,7 +2,7 @@
 //! step of 1/256 with its neighbours, and random bits against exact wide floats.
 
 use second::exact::{exact, whole_not_above, Exact};
-use second::{build, place, point_from_colour, point_from_grey, point_from_nothing, Making};
+use second::{arrange, place, point_from_colour, point_from_grey, point_from_nothing, Making};
 
 const LENT: [i32; 3] = [71, -72, 73];
 const MADE: Making = Making { code: 0, made: 1 };
@@ -443,7 +443,7 @@ fn cases_of_every_kind() {
 }
 
 /// Points made are points: those of the ends are accepted by the one-point test
-/// and, several together, by build.
+/// and, several together, by arrange.
 #[test]
 fn points_made_are_accepted() {
     let last = f32::from_bits(LAST_BELOW_128);
@@ -453,6 +453,6 @@ fn points_made_are_accepted() {
         assert_eq!(place(3, 0, point, &[], &[], &[]).code, 0);
     }
     let mut order = [77; 3];
-    assert_eq!(build(3, 3, &points, &[1; 3], &mut order), 0);
+    assert_eq!(arrange(3, 3, &points, &[1; 3], &mut order).code, 0);
     assert_eq!(order, [0, 2, 1]);
 }

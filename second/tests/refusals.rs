@@ -1,7 +1,7 @@
 //! Limits on both sides, the order of the tests of each call, and what a refusal
 //! leaves alone, every point live.
 
-use second::{build, check, list, open_slots, place, screen, Listing, Placing, Screening};
+use second::{arrange, list, open_slots, place, screen, Listing, Placing, Screening};
 
 const M: i64 = 8_589_934_592;
 
@@ -217,44 +217,6 @@ fn list_leaves_later_places() {
     assert_eq!(buffer, [1, 0, 82]);
 }
 
-/// Build refuses in its order and leaves the lent order as it was.
-#[test]
-fn build_refuses_in_its_order() {
-    let mut order = [7, 8, 9];
-    assert_eq!(build(5, 65_536, &[32_768], &[2], &mut order), 1);
-    assert_eq!(build(1, 65_536, &[32_768], &[2], &mut order), 2);
-    assert_eq!(build(1, 4, &[32_768], &[2], &mut order), 3);
-    assert_eq!(build(1, 4, &[32_768; 4], &[2], &mut order), 15);
-    assert_eq!(build(1, 4, &[32_768; 4], &[1; 4], &mut order), 4);
-    assert_eq!(build(1, 3, &[0, 0, 32_768], &[1; 3], &mut order), 5);
-    assert_eq!(order, [7, 8, 9]);
-    assert_eq!(build(1, 2, &[1, 0], &[1; 2], &mut order), 0);
-    assert_eq!(order, [1, 0, 9]);
-}
-
-/// Check refuses in its order.
-#[test]
-fn check_refuses_in_its_order() {
-    assert_eq!(check(0, 65_536, &[32_768], &[2], &[0]), 1);
-    assert_eq!(check(4, 65_536, &[32_768], &[2], &[0]), 2);
-    assert_eq!(check(4, 2, &[32_768], &[2], &[0]), 3);
-    assert_eq!(check(1, 2, &[0, 32_768], &[2], &[1]), 15);
-    assert_eq!(check(1, 2, &[0, 32_768], &[1; 2], &[1]), 4);
-    assert_eq!(check(1, 2, &[0, 32_768], &[1; 2], &[1, 0]), 5);
-    assert_eq!(check(1, 2, &[0, 1], &[1; 2], &[1, 0]), 9);
-    assert_eq!(check(1, 2, &[0, 1], &[1; 2], &[0, 1, 1]), 0);
-}
-
-/// Check says 9 for a number twice and for a number at least n.
-#[test]
-fn check_refuses_strange_numbers() {
-    let points = [5, 5, 5];
-    assert_eq!(check(1, 3, &points, &[1; 3], &[0, 1, 2]), 0);
-    for order in [[0, 1, 1], [0, 1, 3], [0, 1, u32::MAX], [0, 0, 0]] {
-        assert_eq!(check(1, 3, &points, &[1; 3], &order), 9);
-    }
-}
-
 /// The one-point test refuses in rising order; its 11 comes last.
 #[test]
 fn place_refuses_in_rising_order() {
@@ -282,8 +244,7 @@ fn place_refuses_in_rising_order() {
 #[test]
 fn ranges_on_both_sides() {
     for (x, code) in [(-32_769, 5), (-32_768, 0), (32_767, 0), (32_768, 5)] {
-        assert_eq!(build(1, 1, &[x], &[1], &mut [0]), code);
-        assert_eq!(check(1, 1, &[x], &[1], &[0]), code);
+        assert_eq!(arrange(1, 1, &[x], &[1], &mut [0]).code, code);
         assert_eq!(place(1, 0, &[x], &[], &[], &[]).code, code);
     }
     for (a, code) in [(-32_768, 8), (-32_767, 0), (32_767, 0), (32_768, 8)] {
@@ -293,7 +254,7 @@ fn ranges_on_both_sides() {
         assert_eq!(place(1, 1, &[0], &[0], &[m], &[0]).code, code);
     }
     for x in [i32::MIN, i32::MAX] {
-        assert_eq!(build(1, 1, &[x], &[1], &mut [0]), 5);
+        assert_eq!(arrange(1, 1, &[x], &[1], &mut [0]).code, 5);
         assert_eq!(place(1, 1, &[0], &[x], &[0], &[0]).code, 8);
         assert_eq!(place(1, 1, &[0], &[0], &[i64::MIN], &[0]).code, 8);
     }
@@ -303,10 +264,16 @@ fn ranges_on_both_sides() {
 #[test]
 fn lengths_on_both_sides() {
     for (length, code) in [(5, 3), (6, 0), (7, 3)] {
-        assert_eq!(build(2, 3, &vec![0; length], &[1; 3], &mut [0; 3]), code);
+        assert_eq!(
+            arrange(2, 3, &vec![0; length], &[1; 3], &mut [0; 3]).code,
+            code
+        );
     }
     for (length, code) in [(2, 4), (3, 0), (4, 0)] {
-        assert_eq!(build(2, 3, &[0; 6], &[1; 3], &mut vec![0; length]), code);
+        assert_eq!(
+            arrange(2, 3, &[0; 6], &[1; 3], &mut vec![0; length]).code,
+            code
+        );
     }
     for (length, code) in [(3, 7), (4, 0), (5, 7)] {
         let normals = vec![0; length];
@@ -325,7 +292,10 @@ fn lengths_on_both_sides() {
 #[test]
 fn counts_on_both_sides() {
     for (n, code) in [(65_535, 0), (65_536, 2)] {
-        assert_eq!(build(1, n, &vec![0; n], &vec![1; n], &mut vec![0; n]), code);
+        assert_eq!(
+            arrange(1, n, &vec![0; n], &vec![1; n], &mut vec![0; n]).code,
+            code
+        );
     }
     for (h, code) in [(0, 0), (32, 0), (33, 6)] {
         let (normals, offsets, marks) = (vec![0; h], vec![0; h], vec![0; h]);
@@ -352,9 +322,9 @@ fn list_tests_both_buffers() {
 #[test]
 fn greatest_numbers_are_refused() {
     let most = usize::MAX;
-    assert_eq!(build(most, most, &[], &[], &mut []), 1);
-    assert_eq!(build(4, most, &[], &[], &mut []), 2);
-    assert_eq!(check(4, most / 4 + 1, &[], &[], &[]), 2);
+    assert_eq!(arrange(most, most, &[], &[], &mut []).code, 1);
+    assert_eq!(arrange(4, most, &[], &[], &mut []).code, 2);
+    assert_eq!(arrange(4, most / 4 + 1, &[], &[], &mut []).code, 2);
     assert_eq!(place(4, most, &[0; 4], &[], &[], &[]).code, 6);
     let answer = list(4, 0, most / 4 + 1, &[], &[], &[], &[], &[], &[], &mut []);
     assert_eq!(answer.code, 6);
@@ -363,11 +333,9 @@ fn greatest_numbers_are_refused() {
     assert_eq!(screen(4, 0, most, &[], &[], &[], &[], &[], &[]).code, 6);
 }
 
-/// The empty shelf: done, nothing listed, no visits.
+/// The empty shelf listed: done, nothing in its lists, no visits.
 #[test]
-fn empty_shelf() {
-    assert_eq!(build(4, 0, &[], &[], &mut [5]), 0);
-    assert_eq!(check(4, 0, &[], &[], &[]), 0);
+fn empty_shelf_listed() {
     let mut buffer = [6];
     let answer = list(1, 0, 1, &[], &[], &[], &[1], &[5], &[1], &mut buffer);
     assert_eq!((answer, buffer), (Listing::default(), [6]));

@@ -1,7 +1,7 @@
 //! Several regions in one call, every point live: worked examples, refusals, limits
 //! on both sides, and random cases against list, region by region.
 
-use second::{build, is_square, list, list_regions, open_slots, place, s, visits_of_face};
+use second::{arrange, is_square, list, list_regions, open_slots, place, s, visits_of_face};
 use std::time::Instant;
 
 const A: [i32; 12] = [1, 5, 4, 2, 4, 8, 7, 1, 6, 6, 2, 2];
@@ -31,18 +31,18 @@ struct Lent {
     counts: Vec<u32>,
 }
 
-/// Builds the order of these points, which must be done.
-fn built(k: usize, points: &[i32]) -> Vec<u32> {
+/// Arranges these points, which must be done, and gives the order.
+fn arranged(k: usize, points: &[i32]) -> Vec<u32> {
     let n = points.len() / k;
     let mut order = vec![77; n];
-    assert_eq!(build(k, n, points, &vec![1; n], &mut order), 0);
+    assert_eq!(arrange(k, n, points, &vec![1; n], &mut order).code, 0);
     order
 }
 
-/// The call for these regions of a built shelf, their faces end to end. The order
+/// The call for these regions of a arranged shelf, their faces end to end. The order
 /// and both buffers have two places more than they need.
 fn lent(k: usize, points: &[i32], regions: &[Region]) -> Lent {
-    let order = built(k, points);
+    let order = arranged(k, points);
     let n = order.len();
     let faces = |region: &Region| region.1.len() as u32;
     Lent {
@@ -741,7 +741,7 @@ fn greatest_counts_are_refused() {
 /// One random region: its normals, offsets and marks.
 type Thrown = (Vec<i32>, Vec<i64>, Vec<u8>);
 
-/// One random case: points with their built order, and regions.
+/// One random case: points with their arranged order, and regions.
 struct Case {
     k: usize,
     points: Vec<i32>,
@@ -824,7 +824,7 @@ fn cases() -> Vec<Case> {
         let points = narrow(thrown(&mut state, k * n, -x - 1, x));
         Case {
             k,
-            order: built(k, &points),
+            order: arranged(k, &points),
             points,
             regions: (0..regions)
                 .map(|_| thrown_region(&mut state, k, round))

@@ -1,32 +1,32 @@
 //! The screen, every point live: worked examples, and random shelves against list
 //! and the one-point test.
 
-use second::{build, list, open_slots, place, screen, Listing, Screening};
+use second::{arrange, list, open_slots, place, screen, Listing, Screening};
 
 const A: [i32; 12] = [1, 5, 4, 2, 4, 8, 7, 1, 6, 6, 2, 2];
 const TWO_NORMALS: [i32; 4] = [1, 1, -1, 0];
 const TWO_OFFSETS: [i64; 2] = [7, -6];
 
-/// Builds the order of these points, which must be done.
-fn built(k: usize, points: &[i32]) -> Vec<u32> {
+/// Arranges these points, which must be done, and gives the order.
+fn arranged(k: usize, points: &[i32]) -> Vec<u32> {
     let n = points.len() / k;
     let mut order = vec![77; n];
-    assert_eq!(build(k, n, points, &vec![1; n], &mut order), 0);
+    assert_eq!(arrange(k, n, points, &vec![1; n], &mut order).code, 0);
     order
 }
 
-/// Screens a built shelf, every face closed.
+/// Screens a arranged shelf, every face closed.
 fn screened(k: usize, points: &[i32], normals: &[i32], offsets: &[i64]) -> Screening {
-    let order = built(k, points);
+    let order = arranged(k, points);
     let (n, h) = (order.len(), offsets.len());
     let (live, marks) = (vec![1; n], vec![0; h]);
     screen(k, n, h, points, &live, &order, normals, offsets, &marks)
 }
 
-/// Lists a built shelf, every face closed: the numbers of the answer and the
+/// Lists a arranged shelf, every face closed: the numbers of the answer and the
 /// list.
 fn listed(k: usize, points: &[i32], normals: &[i32], offsets: &[i64]) -> (Listing, Vec<u32>) {
-    let order = built(k, points);
+    let order = arranged(k, points);
     let (n, h) = (order.len(), offsets.len());
     let (marks, mut places) = (vec![0; h], vec![88; n]);
     let answer = list(
@@ -162,7 +162,7 @@ fn last_slot_found() {
 fn found_slot_settled() {
     let points = [1, 1, 2, 2, 4, 8, 7, 1, 6, 6];
     let (normals, offsets) = ([1, 0, 0, -1], [4, -6]);
-    assert_eq!(built(2, &points), [0, 1, 2, 3, 4]);
+    assert_eq!(arranged(2, &points), [0, 1, 2, 3, 4]);
     let open = open_slots(
         2,
         5,
@@ -201,7 +201,7 @@ fn thrown(state: &mut u64, count: usize, most: i64) -> Vec<i64> {
 /// Goes through the slots from the lowest, with the one-point test at each, and
 /// counts the open ones until a point is inside.
 fn slot_by_slot(k: usize, points: &[i32], normals: &[i32], offsets: &[i64]) -> Screening {
-    let order = built(k, points);
+    let order = arranged(k, points);
     let (n, h) = (order.len(), offsets.len());
     let (live, marks) = (vec![1; n], vec![0; h]);
     let open = open_slots(k, n, h, points, &live, &order, normals, offsets, &marks).unwrap();

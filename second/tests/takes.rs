@@ -1,7 +1,7 @@
 //! Taking and withdrawing: worked examples, refusals, the lowest dead number, and
 //! random sequences of calls against a plain shelf of points that come and go.
 
-use second::{build, check, list, take, withdraw, Listing, Taking};
+use second::{arrange, list, take, withdraw, Listing, Taking};
 
 /// The arguments of a take, all right at first.
 #[derive(Clone, Debug, PartialEq)]
@@ -365,6 +365,18 @@ fn last_number() {
     assert_eq!(after.live[65_534], 1);
 }
 
+/// What list, with no faces, says of an old order: 0 or 9. Arrange says by its
+/// already which of the two it is.
+fn asked(k: usize, points: &[i32], live: &[u8], order: &[u32]) -> u32 {
+    let n = live.len();
+    let mut places = vec![88; n];
+    let listing = list(k, n, 0, points, live, order, &[], &[], &[], &mut places);
+    let arranging = arrange(k, n, points, live, &mut order.to_vec());
+    let already = u32::from(listing.code == 0);
+    assert_eq!((arranging.code, arranging.already), (0, already));
+    listing.code
+}
+
 /// Points 0 and 10 with order 0 1. With number 1 withdrawn the order passes;
 /// whether it does with a new point there goes by that point.
 #[test]
@@ -373,9 +385,9 @@ fn old_order_with_number_1_new() {
     for (x, code) in [(-1, 9), (0, 0), (3, 0), (10, 0)] {
         let (mut points, mut live) = ([0, 10], [1, 1]);
         assert_eq!(withdraw(2, 1, &mut live), 0);
-        assert_eq!(check(1, 2, &points, &live, &order), 0);
+        assert_eq!(asked(1, &points, &live, &order), 0);
         assert_eq!(take(1, 2, &mut points, &mut live, &[x]), done(1));
-        assert_eq!(check(1, 2, &points, &live, &order), code);
+        assert_eq!(asked(1, &points, &live, &order), code);
     }
 }
 
@@ -387,9 +399,9 @@ fn old_order_with_number_0_new() {
     for (x, code) in [(0, 0), (9, 0), (10, 0), (11, 9)] {
         let (mut points, mut live) = ([0, 10], [1, 1]);
         assert_eq!(withdraw(2, 0, &mut live), 0);
-        assert_eq!(check(1, 2, &points, &live, &order), 9);
+        assert_eq!(asked(1, &points, &live, &order), 9);
         assert_eq!(take(1, 2, &mut points, &mut live, &[x]), done(0));
-        assert_eq!(check(1, 2, &points, &live, &order), code);
+        assert_eq!(asked(1, &points, &live, &order), code);
     }
 }
 
@@ -399,7 +411,7 @@ fn lists_go_by_the_live_pictures() {
     let (mut points, mut live) = ([0, 10, 20], [1, 1, 1]);
     let listed = |points: &[i32], live: &[u8]| {
         let (mut order, mut places) = ([77; 3], [88; 3]);
-        assert_eq!(build(1, 3, points, live, &mut order), 0);
+        assert_eq!(arrange(1, 3, points, live, &mut order).code, 0);
         let answer = list(1, 3, 1, points, live, &order, &[1], &[5], &[0], &mut places);
         (counts(answer), places)
     };
@@ -511,7 +523,7 @@ fn totals_of_sequences() {
     assert!(all.iter().all(|&count| count >= 1_000), "{all:?}");
 }
 
-/// Random sequences of calls with an order built before them: it passes exactly
+/// Random sequences of calls with an order from before them: it passes exactly
 /// if it begins with the order of the live pictures as they now are.
 #[test]
 fn old_orders_after_sequences() {
@@ -521,7 +533,7 @@ fn old_orders_after_sequences() {
         let mut lent = thrown(&mut state, round);
         let (k, n) = (lent.k, lent.n);
         let mut order = vec![77; n];
-        assert_eq!(build(k, n, &lent.points, &lent.live, &mut order), 0);
+        assert_eq!(arrange(k, n, &lent.points, &lent.live, &mut order).code, 0);
         for _ in 0..4 {
             match throw(&mut state, 0, 1) {
                 0 => random_take(&mut state, &mut lent),
@@ -529,9 +541,9 @@ fn old_orders_after_sequences() {
             };
             let v = total(&lent.live);
             let mut anew = vec![77; n];
-            assert_eq!(build(k, n, &lent.points, &lent.live, &mut anew), 0);
+            assert_eq!(arrange(k, n, &lent.points, &lent.live, &mut anew).code, 0);
             let code = if order[..v] == anew[..v] { 0 } else { 9 };
-            assert_eq!(check(k, n, &lent.points, &lent.live, &order), code);
+            assert_eq!(asked(k, &lent.points, &lent.live, &order), code);
             seen[usize::from(code == 9)] += 1;
         }
     }

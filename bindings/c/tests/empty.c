@@ -6,6 +6,12 @@
 /* The live bytes of one number. */
 static const uint8_t live[1] = {HORNHERDER_LIVE};
 
+/* 1 where an arranging of no places is done and they already are the shelf, or is this refusal. */
+static int arranges(hornherder_arranging answer, uint32_t code)
+{
+    return answer.code == code && answer.already == (code == HORNHERDER_DONE);
+}
+
 /* 1 where a listing has this code and zeros. */
 static int is(hornherder_listing answer, uint32_t code)
 {
@@ -53,8 +59,7 @@ static int live_right(size_t k, const int32_t *zero)
            takes_nothing(hornherder_take(k, 0, NULL, 0, NULL, 0, NULL, 0), HORNHERDER_POINTS_LENGTH) &&
            takes_nothing(hornherder_take(k, 1, point, k, NULL, 0, zero, k), HORNHERDER_LIVE_BYTES) &&
            hornherder_withdraw(0, 0, NULL, 0) == HORNHERDER_NOT_LIVE && hornherder_withdraw(1, 0, NULL, 0) == HORNHERDER_LIVE_BYTES &&
-           hornherder_build(k, 1, zero, k, NULL, 0, NULL, 0) == HORNHERDER_LIVE_BYTES &&
-           hornherder_check(k, 1, zero, k, NULL, 0, NULL, 0) == HORNHERDER_LIVE_BYTES;
+           arranges(hornherder_arrange(k, 1, zero, k, NULL, 0, NULL, 0), HORNHERDER_LIVE_BYTES);
 }
 
 /* 1 where one number that is dead asks for no place in an order or a list, whatever its coordinates. */
@@ -62,8 +67,7 @@ static int dead_right(size_t k)
 {
     const int32_t any[HORNHERDER_MAX_DIMENSION] = {INT32_MIN, INT32_MAX, 32768, -32769};
     const uint8_t dead[1] = {HORNHERDER_DEAD};
-    return hornherder_build(k, 1, any, k, dead, 1, NULL, 0) == HORNHERDER_DONE &&
-           hornherder_check(k, 1, any, k, dead, 1, NULL, 0) == HORNHERDER_DONE &&
+    return arranges(hornherder_arrange(k, 1, any, k, dead, 1, NULL, 0), HORNHERDER_DONE) &&
            is(hornherder_list(k, 1, 0, any, k, dead, 1, NULL, 0, NULL, 0, NULL, 0, NULL, 0, NULL, 0), HORNHERDER_DONE) &&
            finds_nothing(hornherder_screen(k, 1, 0, any, k, dead, 1, NULL, 0, NULL, 0, NULL, 0, NULL, 0), HORNHERDER_DONE) &&
            explains_nothing(hornherder_explain(k, 1, 0, 0, any, k, dead, 1, NULL, 0, NULL, 0, NULL, 0, NULL, 0), HORNHERDER_NOT_LIVE);
@@ -85,8 +89,7 @@ int main(void)
         hornherder_placing inside = hornherder_place(k, 0, zero, k, NULL, 0, NULL, 0, NULL, 0);
         hornherder_placing none = hornherder_place(k, 0, NULL, 0, NULL, 0, NULL, 0, NULL, 0);
         hornherder_placing unmarked = hornherder_place(k, 1, zero, k, zero, k, &offset, 1, NULL, 0);
-        right &= hornherder_build(k, 0, NULL, 0, NULL, 0, NULL, 0) == HORNHERDER_DONE;
-        right &= hornherder_check(k, 0, NULL, 0, NULL, 0, NULL, 0) == HORNHERDER_DONE;
+        right &= arranges(hornherder_arrange(k, 0, NULL, 0, NULL, 0, NULL, 0), HORNHERDER_DONE);
         right &= is(hornherder_list(k, 0, 0, NULL, 0, NULL, 0, NULL, 0, NULL, 0, NULL, 0, NULL, 0, NULL, 0), HORNHERDER_DONE);
         right &= finds_nothing(hornherder_screen(k, 0, 0, NULL, 0, NULL, 0, NULL, 0, NULL, 0, NULL, 0, NULL, 0), HORNHERDER_DONE);
         right &= explains_nothing(hornherder_explain(k, 0, 0, 0, NULL, 0, NULL, 0, NULL, 0, NULL, 0, NULL, 0, NULL, 0), HORNHERDER_NOT_LIVE);
@@ -94,8 +97,8 @@ int main(void)
         right &= regions_of(k, 0, 2, NULL, 0) == HORNHERDER_SHORT_BUFFER && regions_of(k, 1, 2, zero, 6) == HORNHERDER_SHORT_BUFFER;
         right &= not_measured(inside, HORNHERDER_DONE, 1);
         right &= not_measured(none, HORNHERDER_POINTS_LENGTH, 0);
-        right &= hornherder_build(k, 1, zero, k, live, 1, NULL, 0) == HORNHERDER_SHORT_BUFFER;
-        right &= hornherder_check(k, 1, NULL, 0, live, 1, NULL, 0) == HORNHERDER_POINTS_LENGTH;
+        right &= arranges(hornherder_arrange(k, 1, zero, k, live, 1, NULL, 0), HORNHERDER_SHORT_BUFFER);
+        right &= arranges(hornherder_arrange(k, 1, NULL, 0, live, 1, NULL, 0), HORNHERDER_POINTS_LENGTH);
         right &= is(hornherder_list(k, 0, 1, NULL, 0, NULL, 0, NULL, 0, NULL, 0, NULL, 0, NULL, 0, NULL, 0), HORNHERDER_FACES_LENGTH);
         right &= finds_nothing(hornherder_screen(k, 1, 0, zero, k, live, 1, NULL, 0, NULL, 0, NULL, 0, NULL, 0), HORNHERDER_SHORT_BUFFER);
         right &= finds_nothing(hornherder_screen(k, 0, 1, NULL, 0, NULL, 0, NULL, 0, NULL, 0, NULL, 0, NULL, 0), HORNHERDER_FACES_LENGTH);

@@ -27,14 +27,14 @@ static int is_filled(const void *bytes, size_t count)
     return 1;
 }
 
-/* 1 where build writes the shelf of the live points into v places, and none behind. */
-static int builds(void)
+/* 1 where arrange writes the shelf of the live points into v places, and none behind. */
+static int arranges(void)
 {
-    uint32_t built[V + 1];
-    memset(built, FILL, sizeof built);
-    return hornherder_build(K, N, points, K * N, live, N, built, V - 1) == HORNHERDER_SHORT_BUFFER && is_filled(built, sizeof built) &&
-           hornherder_build(K, N, points, K * N, live, N, built, V + 1) == HORNHERDER_DONE && memcmp(built, order, V * sizeof *built) == 0 &&
-           is_filled(&built[V], sizeof *built) && hornherder_check(K, N, points, K * N, live, N, built, V) == HORNHERDER_DONE;
+    uint32_t own[V + 1];
+    memset(own, FILL, sizeof own);
+    return hornherder_arrange(K, N, points, K * N, live, N, own, V - 1).code == HORNHERDER_SHORT_BUFFER && is_filled(own, sizeof own) &&
+           hornherder_arrange(K, N, points, K * N, live, N, own, V + 1).code == HORNHERDER_DONE && memcmp(own, order, V * sizeof *own) == 0 &&
+           is_filled(&own[V], sizeof *own) && hornherder_arrange(K, N, points, K * N, live, N, own, V).already == 1;
 }
 
 /* 1 where list, screen and explain go by the live points. */
@@ -78,9 +78,10 @@ static int refuses_bytes(void)
     const uint8_t two[N] = {1, 1, 0, 1, 1, 2}, more[N + 1] = {1, 1, 0, 1, 1, 0, 0};
     const uint32_t code = HORNHERDER_LIVE_BYTES;
     int right = regions_after(live, N) == HORNHERDER_REGION_COUNT && regions_after(two, N) == code && regions_after(live, N - 1) == code;
-    right &= hornherder_build(K, N, points, K * N, two, N, NULL, 0) == code && hornherder_build(K, N, points, K * N, more, N + 1, NULL, 0) == code;
-    right &= hornherder_check(K, N, points, K * N, live, N - 1, NULL, 0) == code;
-    right &= hornherder_check(K, N, points, K * N - 1, two, N, NULL, 0) == HORNHERDER_POINTS_LENGTH;
+    right &= hornherder_arrange(K, N, points, K * N, two, N, NULL, 0).code == code;
+    right &= hornherder_arrange(K, N, points, K * N, more, N + 1, NULL, 0).code == code;
+    right &= hornherder_arrange(K, N, points, K * N, live, N - 1, NULL, 0).code == code;
+    right &= hornherder_arrange(K, N, points, K * N - 1, two, N, NULL, 0).code == HORNHERDER_POINTS_LENGTH;
     right &= hornherder_list(K, N, 0, points, K * N, two, N, NULL, 0, NULL, 0, NULL, 0, NULL, 0, NULL, 0).code == code;
     right &= hornherder_screen(K, N, 0, points, K * N, two, N, NULL, 0, NULL, 0, NULL, 0, NULL, 0).code == code;
     right &= hornherder_explain(K, N, 0, 5, points, K * N, two, N, NULL, 0, NULL, 0, NULL, 0, NULL, 0).code == code;
@@ -136,17 +137,17 @@ static int refuses_takes(void)
            take_refused(1, 0, wrong, K, HORNHERDER_COORDINATE_RANGE);
 }
 
-/* 1 where withdrawing clears one byte, and refuses what is not live; the order of before passes where its last slot is withdrawn. */
+/* 1 where withdrawing clears one byte, and refuses what is not live; the order of before is the shelf where its last slot is withdrawn. */
 static int withdraws(void)
 {
     const int32_t row[2] = {0, 10};
-    const uint32_t both[2] = {0, 1};
+    uint32_t both[2] = {0, 1};
     uint8_t bytes[3] = {1, 1, FILL};
     int right = hornherder_withdraw(2, 2, bytes, 2) == HORNHERDER_NOT_LIVE && hornherder_withdraw(2, UINT32_MAX, bytes, 2) == HORNHERDER_NOT_LIVE;
     right &= hornherder_withdraw(2, 2, bytes, 3) == HORNHERDER_LIVE_BYTES && hornherder_withdraw(65536, 2, bytes, 3) == HORNHERDER_TOO_MANY_POINTS;
     right &= bytes[0] == 1 && bytes[1] == 1;
     right &= hornherder_withdraw(2, 1, bytes, 2) == HORNHERDER_DONE && bytes[0] == 1 && bytes[1] == 0 && bytes[2] == FILL;
-    right &= hornherder_check(1, 2, row, 2, bytes, 2, both, 2) == HORNHERDER_DONE;
+    right &= hornherder_arrange(1, 2, row, 2, bytes, 2, both, 2).already == 1;
     right &= hornherder_withdraw(2, 1, bytes, 2) == HORNHERDER_NOT_LIVE && bytes[0] == 1 && bytes[1] == 0;
     return right && hornherder_withdraw(2, 0, bytes, 2) == HORNHERDER_DONE && bytes[0] == 0;
 }
@@ -154,7 +155,7 @@ static int withdraws(void)
 int main(void)
 {
     int right = sizeof(hornherder_taking) == 8 && offsetof(hornherder_taking, number) == 4;
-    right &= builds() && asks() && lists_regions() && refuses_bytes() && takes() && refuses_takes() && withdraws();
+    right &= arranges() && asks() && lists_regions() && refuses_bytes() && takes() && refuses_takes() && withdraws();
     puts(right ? "right" : "wrong");
     return 0;
 }

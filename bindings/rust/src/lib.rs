@@ -11,7 +11,7 @@
 //! use hornherder::{Margin, Region, Shelf};
 //!
 //! // Six points of two coordinates each.
-//! let shelf = Shelf::build(2, vec![1, 5, 4, 2, 4, 8, 7, 1, 6, 6, 2, 2])?;
+//! let shelf = Shelf::new(2, vec![1, 5, 4, 2, 4, 8, 7, 1, 6, 6, 2, 2])?;
 //! assert_eq!(shelf.order(), [1, 5, 0, 2, 3, 4]);
 //!
 //! // The region x + y >= 7 and -x >= -6.
@@ -47,19 +47,20 @@
 //! ```
 //!
 //! Pictures come and go: [`Shelf::take`] gives a point the lowest number that is free, [`Shelf::withdraw`]
-//! frees a number, and [`Shelf::arrange`] arranges the points that are left.
+//! frees a number, and [`Shelf::arrange`] arranges the points that are left, where their order is not the tree
+//! already.
 //!
 //! A [`Reading`] makes points of the renderer's floats.
 //!
 //! The first shelf, region or point that is made asks the library for its version; one of another version is
 //! refused with [`Refusal::OtherVersion`].
 //!
-//! What a call costs: a list call checks the order first. On 65,535 points with 8 faces that is about
-//! seven tenths of the call on x86-64 and four fifths on Arm; on small shelves less. A check before a list
-//! call pays for it twice. A screen checks the order too, and does no more than a list call: where one of
-//! the first slots is inside, it is little more than that check. An explain call goes one way down from the
-//! root, so it is little more than that check for every point. Several regions in one call share one check:
-//! each costs the walk alone.
+//! What a call costs: a list call checks the order first, which costs what [`Shelf::arrange`] does where the
+//! order is the tree already. On 65,535 points with 8 faces that is about seven tenths of the call on x86-64 and
+//! four fifths on Arm; on small shelves less. A screen checks the order too, and does no more than a list call:
+//! where one of the first slots is inside, it is little more than that check. An explain call goes one way down
+//! from the root, so it is little more than that check for every point. Several regions in one call share one
+//! check: each costs the walk alone.
 //!
 //! The library keeps no state, so any number of threads may call at once. A call needs less than
 //! [`raw::STACK_BYTES`] of stack.

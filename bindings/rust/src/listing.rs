@@ -37,7 +37,7 @@ impl<'l> Listing<'l> {
     /// ```
     /// use hornherder::{Region, Shelf};
     ///
-    /// let shelf = Shelf::build(1, vec![5, 6, 7, 8])?;
+    /// let shelf = Shelf::new(1, vec![5, 6, 7, 8])?;
     /// let region = Region::everywhere(1)?.with_face(&[1], 8)?;
     /// let mut buffer = vec![0; shelf.len()];
     /// let listing = shelf.list(&region, &mut buffer)?;

@@ -23,16 +23,17 @@ impl<'s> Shelf<'s> {
         same_version()?;
         // What is too much is refused for one more than the most.
         let (k, n) = (k.min(MAX_DIMENSION + 1), numbers.min(MAX_POINTS + 1));
-        Shelf::build_live(k, vec![0; k * n], vec![raw::DEAD; n])
+        let shelf = Shelf::with_order(k, vec![0; k * n], vec![raw::DEAD; n], vec![NO_NUMBER; n]);
+        Ok(shelf?.0)
     }
 
-    /// Takes a point in at the lowest number that is free, and answers that number. The order is left alone, and
-    /// has a number too few now: [`arrange`](Shelf::arrange) makes it anew, once for any number of changes.
+    /// Takes a point in at the lowest number that is free, and answers that number. The order is left alone:
+    /// [`arrange`](Shelf::arrange) sees to it, once for any number of changes.
     ///
     /// ```
     /// use hornherder::{Refusal, Region, Shelf};
     ///
-    /// let mut shelf = Shelf::build(1, vec![30, 10, 20])?;
+    /// let mut shelf = Shelf::new(1, vec![30, 10, 20])?;
     /// shelf.withdraw(2)?;
     /// shelf.withdraw(0)?;
     /// assert_eq!(shelf.take(&[5])?, 0);
@@ -64,7 +65,7 @@ impl<'s> Shelf<'s> {
     /// ```
     /// use hornherder::{Refusal, Region, Shelf};
     ///
-    /// let mut shelf = Shelf::build(1, vec![0, 10])?;
+    /// let mut shelf = Shelf::new(1, vec![0, 10])?;
     /// shelf.withdraw(1)?;
     /// assert_eq!((shelf.len(), shelf.point(1)), (1, None));
     ///
@@ -84,21 +85,28 @@ impl<'s> Shelf<'s> {
         Ok(())
     }
 
-    /// Arranges the points anew, as they are after [`take`](Shelf::take) and [`withdraw`](Shelf::withdraw).
+    /// Arranges the points as they are now, after [`take`](Shelf::take) and [`withdraw`](Shelf::withdraw), unless the
+    /// order is their tree already, and says whether it was.
     ///
     /// ```
     /// use hornherder::Shelf;
     ///
-    /// let mut shelf = Shelf::build(1, vec![30, 10, 20])?;
+    /// let mut shelf = Shelf::new(1, vec![30, 10, 20])?;
+    /// assert!(shelf.arrange()?);
     /// shelf.withdraw(1)?;
-    /// shelf.arrange()?;
+    /// assert!(!shelf.arrange()?);
     /// assert_eq!(shelf.order(), [2, 0]);
-    /// assert_eq!(shelf, Shelf::build_live(1, vec![30, 0, 20], vec![1, 0, 1])?);
+    ///
+    /// // Number 0 stands in the last slot, so the order is the tree of the one point that is left.
+    /// shelf.withdraw(0)?;
+    /// assert!(shelf.arrange()?);
     /// # Ok::<(), hornherder::Refusal>(())
     /// ```
-    pub fn arrange(&mut self) -> Result<(), Refusal> {
+    pub fn arrange(&mut self) -> Result<bool, Refusal> {
         let n = self.numbers();
         let order = self.order.to_mut();
-        done(raw::build(self.k, n, &self.points, &self.live, order))
+        let answer = raw::arrange(self.k, n, &self.points, &self.live, order);
+        done(answer.code)?;
+        Ok(answer.already == 1)
     }
 }

@@ -12,9 +12,11 @@
 //! let points = [0, 10];
 //! let live = [raw::LIVE; 2];
 //! let mut order = [7, 7, 7];
-//! assert_eq!(raw::build(1, 2, &points, &live, &mut order), 0);
+//! let answer = raw::arrange(1, 2, &points, &live, &mut order);
+//! assert_eq!((answer.code, answer.already), (0, 0));
 //! assert_eq!(order, [0, 1, 7]); // places behind the last live number are left alone
-//! assert_eq!(raw::check(1, 2, &points, &live, &[1, 0]), 9);
+//! assert_eq!(raw::arrange(1, 2, &points, &live, &mut order).already, 1);
+//! assert_eq!(raw::screen(1, 2, 0, &points, &live, &[1, 0], &[], &[], &[]).code, 9); // no shelf of these points
 //!
 //! let mut list = [0; 2];
 //! let closed = [raw::CLOSED_FACE];
@@ -55,21 +57,22 @@
 //! assert_eq!(raw::point_from_nothing(&mut place).made, 0);
 //! assert_eq!(place, [256, -128, 25]); // as they were
 //!
-//! // Number 1 is withdrawn, so the order's first place alone is read. Then another point gets the number.
+//! // Number 1 is withdrawn, so of the order the first place alone counts. Then another point gets the number.
 //! let (mut points, mut live) = (points, live);
 //! assert_eq!(raw::withdraw(2, 1, &mut live), 0);
-//! assert_eq!(raw::check(1, 2, &points, &live, &order), 0);
+//! assert_eq!(raw::arrange(1, 2, &points, &live, &mut order).already, 1);
 //! assert_eq!(raw::withdraw(2, 1, &mut live), 17); // it is dead
 //! let answer = raw::take(1, 2, &mut points, &mut live, &[-5]);
 //! assert_eq!((answer.code, answer.number), (0, 1));
 //! assert_eq!((points, live), ([0, -5], [1, 1]));
-//! assert_eq!(raw::check(1, 2, &points, &live, &order), 9); // the shelf is 1 0 now
+//! assert_eq!(raw::arrange(1, 2, &points, &live, &mut order).already, 0);
+//! assert_eq!(order, [1, 0, 7]);
 //! assert_eq!(raw::take(1, 2, &mut points, &mut live, &[3]).code, 16); // both are live
 //! assert_eq!(raw::version(), raw::VERSION);
 //! ```
 
 /// The version of the calls and of the archive: the header's `HORNHERDER_VERSION`.
-pub const VERSION: u32 = 9;
+pub const VERSION: u32 = 10;
 
 /// The stack that is enough for any call, in bytes.
 pub const STACK_BYTES: usize = 32_768;
@@ -97,6 +100,17 @@ pub const OUTSIDE_WITH_BRANCH: u8 = 3;
 
 /// The reason "outside by its own test".
 pub const OUTSIDE_BY_ITSELF: u8 = 4;
+
+/// What [`arrange`] answers.
+#[must_use]
+#[repr(C)]
+#[derive(Clone, Copy, Debug, Default, PartialEq, Eq)]
+pub struct Arranging {
+    /// 0 for done, or the number of the refusal.
+    pub code: u32,
+    /// 1 where the order was the shelf before, else 0.
+    pub already: u32,
+}
 
 /// What [`take`] answers.
 #[must_use]
@@ -188,7 +202,7 @@ pub struct Making {
 }
 
 extern "C" {
-    fn hornherder_build(
+    fn hornherder_arrange(
         k: usize,
         n: usize,
         points: *const i32,
@@ -197,18 +211,7 @@ extern "C" {
         live_len: usize,
         order: *mut u32,
         order_len: usize,
-    ) -> u32;
-
-    fn hornherder_check(
-        k: usize,
-        n: usize,
-        points: *const i32,
-        points_len: usize,
-        live: *const u8,
-        live_len: usize,
-        order: *const u32,
-        order_len: usize,
-    ) -> u32;
+    ) -> Arranging;
 
     fn hornherder_take(
         k: usize,
@@ -336,13 +339,12 @@ extern "C" {
 // borrowed alone. The library asks for nothing more; where a length is 0 it takes any pointer.
 // In what they say v is how many live bytes are 1.
 
-/// Writes the shelf of the live points into the first v places of `order`. Refusals: 1, 2, 3, then 15, then
-/// 4, 5.
-#[must_use]
-pub fn build(k: usize, n: usize, points: &[i32], live: &[u8], order: &mut [u32]) -> u32 {
+/// Makes the first v places of `order` the shelf of the live points, and says whether they already were it;
+/// where they were, nothing is written. Refusals: 1, 2, 3, then 15, then 4, 5.
+pub fn arrange(k: usize, n: usize, points: &[i32], live: &[u8], order: &mut [u32]) -> Arranging {
     // SAFETY: as said above.
     unsafe {
-        hornherder_build(
+        hornherder_arrange(
             k,
             n,
             points.as_ptr(),
@@ -350,25 +352,6 @@ pub fn build(k: usize, n: usize, points: &[i32], live: &[u8], order: &mut [u32])
             live.as_ptr(),
             live.len(),
             order.as_mut_ptr(),
-            order.len(),
-        )
-    }
-}
-
-/// Says 0 exactly where the first v places of `order` are the shelf of the live points. Refusals: 1, 2, 3,
-/// then 15, then 4, 5, then 9.
-#[must_use]
-pub fn check(k: usize, n: usize, points: &[i32], live: &[u8], order: &[u32]) -> u32 {
-    // SAFETY: as said above.
-    unsafe {
-        hornherder_check(
-            k,
-            n,
-            points.as_ptr(),
-            points.len(),
-            live.as_ptr(),
-            live.len(),
-            order.as_ptr(),
             order.len(),
         )
     }

@@ -16,7 +16,7 @@ use crate::refusal::{done, same_version, Refusal};
 ///     points.extend(reading.point()?.into_iter().flatten());
 /// }
 /// assert_eq!(points, [128, -64, 25, 192, 0, 0]);
-/// assert_eq!(Shelf::build(3, points)?.order(), [0, 1]);
+/// assert_eq!(Shelf::new(3, points)?.order(), [0, 1]);
 /// # Ok::<(), hornherder::Refusal>(())
 /// ```
 #[derive(Clone, Copy, Debug, PartialEq)]

@@ -14,7 +14,7 @@ use std::fmt;
 /// use hornherder::{Region, Shelf};
 ///
 /// // Seven points in one dimension. Face 0 is x >= 30, face 1 is x < 70.
-/// let shelf = Shelf::build(1, vec![10, 20, 30, 40, 50, 60, 70])?;
+/// let shelf = Shelf::new(1, vec![10, 20, 30, 40, 50, 60, 70])?;
 /// let region = Region::everywhere(1)?.with_face(&[1], 30)?.with_open_face(&[-1], -70)?;
 /// for (number, sentence) in [
 ///     (0, "outside: below face 0 by 20, with the whole branch at slot 0"),

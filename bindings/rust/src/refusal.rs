@@ -14,7 +14,7 @@ macro_rules! refusals {
         /// ```
         /// use hornherder::{Refusal, Shelf};
         ///
-        /// let refusal = Shelf::build(2, vec![1, 2, 3]).unwrap_err();
+        /// let refusal = Shelf::new(2, vec![1, 2, 3]).unwrap_err();
         /// assert_eq!(refusal, Refusal::PointsLength);
         /// assert_eq!(refusal.number(), 3);
         /// assert_eq!(Refusal::from_number(3), Some(refusal));
@@ -75,7 +75,7 @@ refusals! {
     TooManyFaces = 6, "h is over 32", "faces that cut nothing off (in a text 33 to 64 faces)";
     FacesLength = 7, "the normals are not k times h long, or the offsets not h (several regions: h of all together)", "a face too many in one of the two, or faces of another dimension";
     FaceRange = 8, "a component is not -32,767 to 32,767, or an offset not -8,589,934,592 to 8,589,934,592", "a normal scaled too far, or an offset in a component's place";
-    NotTheTree = 9, "the first v slots are not the tree of the live points", "points taken or withdrawn, or an order of another shelf: build again";
+    NotTheTree = 9, "the first v slots are not the tree of the live points", "points taken or withdrawn, or an order of another shelf: arrange again";
     Marks = 11, "the marks are not h long (several regions: h of all together), or a mark is not 0 or 1", "closed faces left without a mark, or marks never set";
     ValueRange = 12, "a value is not finite, or not from -128 up to but not including 128", "a pixel that was never rendered, or values on a scale of 0 to 255";
     RegionCount = 14, "the region count is not 1 to 64, or the face counts are not as many", "no region at all, or more than one call takes";

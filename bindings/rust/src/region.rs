@@ -101,7 +101,7 @@ impl Region {
     /// use hornherder::{Region, Shelf};
     ///
     /// // Two bins, x + y >= 6 and x + y < 6. Points 0 and 1 lie on the face between them.
-    /// let shelf = Shelf::build(2, vec![1, 5, 4, 2, 4, 8, 7, 1, 6, 6, 2, 2])?;
+    /// let shelf = Shelf::new(2, vec![1, 5, 4, 2, 4, 8, 7, 1, 6, 6, 2, 2])?;
     /// let upper = Region::everywhere(2)?.with_face(&[1, 1], 6)?;
     /// let lower = Region::everywhere(2)?.with_open_face(&[-1, -1], -6)?;
     ///

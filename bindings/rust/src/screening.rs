@@ -26,7 +26,7 @@ impl Screening {
     /// ```
     /// use hornherder::{Region, Shelf};
     ///
-    /// let shelf = Shelf::build(1, vec![0, 10])?;
+    /// let shelf = Shelf::new(1, vec![0, 10])?;
     /// let up_to_5 = Region::everywhere(1)?.with_face(&[-1], -5)?;
     /// let screening = shelf.screen(&up_to_5)?;
     /// assert_eq!(screening.found(), Some(0));

@@ -11,10 +11,10 @@ use crate::MAX_REGIONS;
 use std::borrow::Cow;
 
 /// Points arranged as a k-d tree. It has [`numbers`](Shelf::numbers) numbers, of which the
-/// [live](Shelf::live) ones, [`len`](Shelf::len) of them, have a point; the others are free. A shelf that is made
-/// has the tree of its points for its order. [`take`](Shelf::take) and [`withdraw`](Shelf::withdraw) leave the
-/// order alone: after them the calls that need the tree are refused with [`Refusal::NotTheTree`], unless the
-/// order is still the tree, until [`arrange`](Shelf::arrange) makes it anew.
+/// [live](Shelf::live) ones, [`len`](Shelf::len) of them, have a point; the others are free.
+/// [`take`](Shelf::take), [`withdraw`](Shelf::withdraw) and [`with_borrowed_order`](Shelf::with_borrowed_order)
+/// leave the order alone: after them the calls that need the tree are refused with [`Refusal::NotTheTree`],
+/// unless the order is the tree, until [`arrange`](Shelf::arrange) has seen to it.
 ///
 /// Points, live bytes and order may be owned or borrowed: give a `Vec` or a slice. What is borrowed is copied
 /// before it is changed. Two shelves are the same where their live numbers, the points of these and the slots are:
@@ -24,101 +24,91 @@ pub struct Shelf<'s> {
     pub(crate) k: usize,
     pub(crate) points: Cow<'s, [i32]>,
     pub(crate) live: Cow<'s, [u8]>,
-    /// At least as many places as there are live numbers; those behind hold anything.
+    /// A place for each live number, unless it is borrowed; places behind these hold anything.
     pub(crate) order: Cow<'s, [u32]>,
     /// How many live numbers there are.
     pub(crate) count: usize,
 }
 
 impl<'s> Shelf<'s> {
-    /// Arranges these points, `k` coordinates each, point 0 first.
+    /// Arranges these points, `k` coordinates each, point 0 first. All of them are live.
     ///
     /// ```
     /// use hornherder::Shelf;
     ///
     /// let points = [3, 3, 3];
-    /// let shelf = Shelf::build(1, &points[..])?;
+    /// let shelf = Shelf::new(1, &points[..])?;
     /// assert_eq!(shelf.order(), [0, 1, 2]); // ties go by number
     /// # Ok::<(), hornherder::Refusal>(())
     /// ```
-    pub fn build(k: usize, points: impl Into<Cow<'s, [i32]>>) -> Result<Shelf<'s>, Refusal> {
+    pub fn new(k: usize, points: impl Into<Cow<'s, [i32]>>) -> Result<Shelf<'s>, Refusal> {
         let points = points.into();
-        let live = all_live(numbered(k, &points));
-        Shelf::build_live(k, points, live)
-    }
-
-    /// Arranges those of these points whose number is live: for each number [`raw::LIVE`] or [`raw::DEAD`]. The
-    /// coordinates of the others may be any numbers.
-    ///
-    /// ```
-    /// use hornherder::{Refusal, Shelf};
-    ///
-    /// let shelf = Shelf::build_live(1, vec![30, i32::MAX, 20], vec![1, 0, 1])?;
-    /// assert_eq!((shelf.numbers(), shelf.len()), (3, 2));
-    /// assert_eq!(shelf.order(), [2, 0]);
-    /// assert_eq!(Shelf::build_live(1, vec![30, 20], vec![1, 2]), Err(Refusal::LiveBytes));
-    /// # Ok::<(), hornherder::Refusal>(())
-    /// ```
-    pub fn build_live(
-        k: usize,
-        points: impl Into<Cow<'s, [i32]>>,
-        live: impl Into<Cow<'s, [u8]>>,
-    ) -> Result<Shelf<'s>, Refusal> {
-        same_version()?;
-        let (points, live) = (points.into(), live.into());
         let n = numbered(k, &points);
-        let mut order = vec![NO_NUMBER; n];
-        done(raw::build(k, n, &points, &live, &mut order))?;
-        Ok(Shelf::new(k, points, live, order.into()))
+        let shelf = Shelf::with_order(k, points, vec![raw::LIVE; n], vec![NO_NUMBER; n]);
+        Ok(shelf?.0)
     }
 
-    /// Takes points with an order that was built before, and checks it. Places of the order behind the
-    /// last point do not matter.
+    /// Takes points, for each number its live byte, [`raw::LIVE`] or [`raw::DEAD`], and an order of before: arranges
+    /// the live points unless the order is their tree already, and says whether it was. The coordinates of the other
+    /// numbers may be any, and so may what the order holds; its places behind the last live number do not matter.
     ///
     /// ```
     /// use hornherder::{Refusal, Shelf};
     ///
-    /// let points = vec![0, 10];
-    /// assert!(Shelf::with_order(1, &points, vec![0, 1]).is_ok());
-    /// let wrong = Shelf::with_order(1, &points, vec![1, 0]);
-    /// assert_eq!(wrong, Err(Refusal::NotTheTree));
+    /// // The order of before number 1 was withdrawn: its first place is the tree of the one point left.
+    /// let (shelf, already) = Shelf::with_order(1, vec![0, 10], vec![1, 0], vec![0, 1])?;
+    /// assert_eq!((shelf.order(), already), (&[0][..], true));
+    ///
+    /// // With no order yet, any numbers will do.
+    /// let (shelf, already) = Shelf::with_order(1, vec![30, i32::MAX, 20], vec![1, 0, 1], vec![0; 3])?;
+    /// assert_eq!((shelf.order(), already), (&[2, 0][..], false));
+    /// assert_eq!((shelf.numbers(), shelf.len()), (3, 2));
+    ///
+    /// let wrong = Shelf::with_order(1, vec![30, 20], vec![1, 2], vec![0; 2]);
+    /// assert_eq!(wrong, Err(Refusal::LiveBytes));
+    /// # Ok::<(), hornherder::Refusal>(())
     /// ```
     pub fn with_order(
         k: usize,
         points: impl Into<Cow<'s, [i32]>>,
-        order: impl Into<Cow<'s, [u32]>>,
-    ) -> Result<Shelf<'s>, Refusal> {
-        let points = points.into();
-        let live = all_live(numbered(k, &points));
-        Shelf::with_live_order(k, points, live, order)
+        live: impl Into<Cow<'s, [u8]>>,
+        order: Vec<u32>,
+    ) -> Result<(Shelf<'s>, bool), Refusal> {
+        same_version()?;
+        let mut shelf = Shelf::of(k, points.into(), live.into(), order.into());
+        let already = shelf.arrange()?;
+        Ok((shelf, already))
     }
 
-    /// Takes points and live bytes with an order that was built of them before, and checks it. Places of the
-    /// order behind the last live number do not matter.
+    /// Takes an order that is only borrowed, as from a file that is mapped to be read, as it is. Nothing is arranged
+    /// and nothing tested: what is wrong is refused by the calls that need it, a wrong order with
+    /// [`Refusal::NotTheTree`].
     ///
     /// ```
-    /// use hornherder::Shelf;
+    /// use hornherder::{Refusal, Region, Shelf};
     ///
-    /// // The order of before number 1 was withdrawn: its first place is the shelf of the one point left.
-    /// let shelf = Shelf::with_live_order(1, vec![0, 10], vec![1, 0], vec![0, 1])?;
-    /// assert_eq!(shelf.order(), [0]);
+    /// let (points, live, order) = ([0, 10], [1, 1], [1, 0]);
+    /// let mut shelf = Shelf::with_borrowed_order(1, &points[..], &live[..], &order)?;
+    /// let everywhere = Region::everywhere(1)?;
+    /// assert_eq!(shelf.screen(&everywhere), Err(Refusal::NotTheTree));
+    ///
+    /// // Arranged, the shelf has an order of its own.
+    /// assert!(!shelf.arrange()?);
+    /// assert_eq!(shelf.screen(&everywhere)?.found(), Some(0));
     /// # Ok::<(), hornherder::Refusal>(())
     /// ```
-    pub fn with_live_order(
+    pub fn with_borrowed_order(
         k: usize,
         points: impl Into<Cow<'s, [i32]>>,
         live: impl Into<Cow<'s, [u8]>>,
-        order: impl Into<Cow<'s, [u32]>>,
+        order: &'s [u32],
     ) -> Result<Shelf<'s>, Refusal> {
         same_version()?;
-        let (points, live, order) = (points.into(), live.into(), order.into());
-        let n = numbered(k, &points);
-        done(raw::check(k, n, &points, &live, &order))?;
-        Ok(Shelf::new(k, points, live, order))
+        Ok(Shelf::of(k, points.into(), live.into(), order.into()))
     }
 
-    /// The shelf of what the library has accepted.
-    fn new(
+    /// The shelf of what was given, as it is.
+    fn of(
         k: usize,
         points: Cow<'s, [i32]>,
         live: Cow<'s, [u8]>,
@@ -151,7 +141,7 @@ impl<'s> Shelf<'s> {
 
     /// How many numbers there are, live ones and free ones.
     pub fn numbers(&self) -> usize {
-        self.live.len()
+        numbered(self.k, &self.points)
     }
 
     /// For each number its live byte: [`raw::LIVE`], or [`raw::DEAD`] where it is free.
@@ -167,14 +157,15 @@ impl<'s> Shelf<'s> {
     /// The coordinates of the point with this number, if there is one.
     pub fn point(&self, number: u32) -> Option<&[i32]> {
         let number = number as usize;
-        let live = self.live.get(number) == Some(&raw::LIVE);
+        let live = number < self.numbers() && self.live.get(number) == Some(&raw::LIVE);
         live.then(|| &self.points[number * self.k..][..self.k])
     }
 
-    /// The number in each slot, as many as there are points. After [`take`](Shelf::take) and
-    /// [`withdraw`](Shelf::withdraw) it is what stood there before, until [`arrange`](Shelf::arrange).
+    /// The number in each slot, as many as there are points, or fewer where the order was borrowed and is too short.
+    /// After [`take`](Shelf::take) and [`withdraw`](Shelf::withdraw) it is what stood there before, until
+    /// [`arrange`](Shelf::arrange).
     pub fn order(&self) -> &[u32] {
-        &self.order[..self.count]
+        &self.order[..self.count.min(self.order.len())]
     }
 
     /// Lists the points inside and outside a region into a buffer of at least [`len`](Shelf::len) places.
@@ -184,7 +175,7 @@ impl<'s> Shelf<'s> {
     /// ```
     /// use hornherder::{Region, Shelf};
     ///
-    /// let shelf = Shelf::build(1, vec![30, 10, 20])?;
+    /// let shelf = Shelf::new(1, vec![30, 10, 20])?;
     /// let mut buffer = vec![0; shelf.len()];
     /// for (least, inside) in [(10, vec![1, 2, 0]), (20, vec![2, 0]), (31, vec![])] {
     ///     let region = Region::everywhere(1)?.with_face(&[1], least)?;
@@ -193,10 +184,10 @@ impl<'s> Shelf<'s> {
     /// # Ok::<(), hornherder::Refusal>(())
     /// ```
     ///
-    /// Refused are a buffer with too few places, faces made for another dimension, and an order that is no
-    /// longer the tree.
+    /// Refused are a buffer with too few places, faces made for another dimension, and an order that is not the
+    /// tree.
     ///
-    /// The library checks the order first, though that of a shelf just made is right, and that is most of the
+    /// The library checks the order first, though that of a shelf just arranged is right, and that is most of the
     /// call: see [what a call costs](crate).
     pub fn list<'l>(&self, region: &Region, buffer: &'l mut [u32]) -> Result<Listing<'l>, Refusal> {
         let answer = raw::list(
@@ -224,7 +215,7 @@ impl<'s> Shelf<'s> {
     /// ```
     /// use hornherder::{Refusal, Region, Shelf};
     ///
-    /// let shelf = Shelf::build(1, vec![30, 10, 20])?;
+    /// let shelf = Shelf::new(1, vec![30, 10, 20])?;
     /// let from = |least| Region::everywhere(1)?.with_face(&[1], least);
     /// let regions = [from(10)?, from(20)?, from(31)?];
     ///
@@ -242,7 +233,7 @@ impl<'s> Shelf<'s> {
     /// ```
     ///
     /// Refused are no region at all or more than [`MAX_REGIONS`], a buffer with too few places, faces made for
-    /// another dimension, and an order that is no longer the tree. One region with a fault refuses all, and the
+    /// another dimension, and an order that is not the tree. One region with a fault refuses all, and the
     /// buffer is left alone.
     pub fn list_all<'l, 'r>(
         &self,
@@ -281,7 +272,7 @@ impl<'s> Shelf<'s> {
     /// ```
     /// use hornherder::{Region, Shelf};
     ///
-    /// let shelf = Shelf::build(1, vec![30, 10, 20])?;
+    /// let shelf = Shelf::new(1, vec![30, 10, 20])?;
     /// for (least, found) in [(10, Some(1)), (20, Some(2)), (31, None)] {
     ///     let region = Region::everywhere(1)?.with_face(&[1], least)?;
     ///     assert_eq!(shelf.screen(&region)?.found(), found);
@@ -289,7 +280,7 @@ impl<'s> Shelf<'s> {
     /// # Ok::<(), hornherder::Refusal>(())
     /// ```
     ///
-    /// Refused are faces made for another dimension, and an order that is no longer the tree, which is checked
+    /// Refused are faces made for another dimension, and an order that is not the tree, which is checked
     /// first, as in [`list`](Shelf::list).
     pub fn screen(&self, region: &Region) -> Result<Screening, Refusal> {
         let answer = raw::screen(
@@ -314,7 +305,7 @@ impl<'s> Shelf<'s> {
     /// ```
     /// use hornherder::{Margin, Reason, Region, Shelf};
     ///
-    /// let shelf = Shelf::build(1, vec![30, 10, 20])?;
+    /// let shelf = Shelf::new(1, vec![30, 10, 20])?;
     /// let from_20 = Region::everywhere(1)?.with_face(&[1], 20)?;
     ///
     /// // The root's node is point 2, with 20. The branch before it, from 10 to 20, is cut by the face; the
@@ -331,7 +322,7 @@ impl<'s> Shelf<'s> {
     /// # Ok::<(), hornherder::Refusal>(())
     /// ```
     ///
-    /// Refused are faces made for another dimension, an order that is no longer the tree, which is checked first,
+    /// Refused are faces made for another dimension, an order that is not the tree, which is checked first,
     /// as in [`list`](Shelf::list), and a number that no point of the shelf has.
     pub fn explain(&self, region: &Region, number: u32) -> Result<Reason, Refusal> {
         let answer = raw::explain(
@@ -365,11 +356,6 @@ impl Eq for Shelf<'_> {}
 
 /// What stands in a place of an order that no number has been written to.
 pub(crate) const NO_NUMBER: u32 = u32::MAX;
-
-/// The live bytes of so many numbers that are all live.
-fn all_live(n: usize) -> Vec<u8> {
-    vec![raw::LIVE; n]
-}
 
 /// How many points these coordinates make. Where they do not come out even, or k is 0, the library refuses.
 fn numbered(k: usize, points: &[i32]) -> usize {

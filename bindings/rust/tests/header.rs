@@ -79,8 +79,8 @@ fn same_constants() {
     assert!(header.is_empty(), "only in the header: {header:?}");
 }
 
-/// Every answer has 16 bytes, or 8 where a point is made or taken, and its numbers where the C tests of reasons, margins, readings and live
-/// bytes ask for them.
+/// Every answer has 16 bytes, or 8 where points are arranged and where one is made or taken, and its numbers where the C tests of reasons,
+/// margins, readings, arranging and live bytes ask for them.
 #[test]
 fn same_layout() {
     assert_eq!(size_of::<raw::Listing>(), 16);
@@ -97,6 +97,8 @@ fn same_layout() {
     assert_eq!(offset_of!(raw::Placing, margin), 8);
     assert_eq!(size_of::<raw::Making>(), 8);
     assert_eq!(offset_of!(raw::Making, made), 4);
+    assert_eq!(size_of::<raw::Arranging>(), 8);
+    assert_eq!(offset_of!(raw::Arranging, already), 4);
     assert_eq!(size_of::<raw::Taking>(), 8);
     assert_eq!(offset_of!(raw::Taking, number), 4);
 }

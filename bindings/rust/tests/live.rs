@@ -1,6 +1,7 @@
 //! Pictures that come and go: shelves with dead numbers, taking and withdrawing.
 
 use hornherder::{raw, Margin, Reason, Refusal, Region, Shelf, MAX_POINTS};
+use std::borrow::Cow;
 
 const A: [i32; 12] = [1, 5, 4, 2, 4, 8, 7, 1, 6, 6, 2, 2];
 
@@ -9,10 +10,21 @@ fn two_faces() -> Region {
     Region::new(2, vec![1, 1, -1, 0], vec![7, -6]).unwrap()
 }
 
+/// These points, arranged, of which those with a live byte of 1 are live.
+fn arranged<'s>(
+    k: usize,
+    points: impl Into<Cow<'s, [i32]>>,
+    live: impl Into<Cow<'s, [u8]>>,
+) -> Result<Shelf<'s>, Refusal> {
+    let live = live.into();
+    let order = vec![u32::MAX; live.len()];
+    Ok(Shelf::with_order(k, points, live, order)?.0)
+}
+
 /// The README's six points without numbers 2 and 5, whose coordinates are no colours.
 fn without_two() -> Shelf<'static> {
     let points = vec![1, 5, 4, 2, i32::MAX, i32::MIN, 7, 1, 6, 6, 32_768, -32_769];
-    Shelf::build_live(2, points, vec![1, 1, 0, 1, 1, 0]).unwrap()
+    arranged(2, points, vec![1, 1, 0, 1, 1, 0]).unwrap()
 }
 
 /// A shelf with dead numbers knows which of its numbers are live, how many, and their points.
@@ -27,7 +39,7 @@ fn live_numbers() {
     for number in [2, 5, 6, u32::MAX] {
         assert_eq!(shelf.point(number), None);
     }
-    let all = Shelf::build(2, &A[..]).unwrap();
+    let all = Shelf::new(2, &A[..]).unwrap();
     assert_eq!((all.numbers(), all.len(), all.live()), (6, 6, &[1; 6][..]));
 }
 
@@ -62,28 +74,29 @@ fn calls() {
 fn same_shelves() {
     let shelf = without_two();
     let mut points = A.to_vec();
-    let same = Shelf::build_live(2, &points[..], vec![1, 1, 0, 1, 1, 0]).unwrap();
+    let same = arranged(2, &points[..], vec![1, 1, 0, 1, 1, 0]).unwrap();
     assert_eq!(same, shelf);
-    let others = Shelf::build_live(2, &points[..], vec![1, 0, 1, 1, 1, 0]).unwrap();
+    let others = arranged(2, &points[..], vec![1, 0, 1, 1, 1, 0]).unwrap();
     assert_ne!(others, shelf);
     let mut changed = shelf.clone();
     changed.withdraw(3).unwrap();
     assert_ne!(changed, shelf);
     points[0] = 0;
-    let moved = Shelf::build_live(2, points, vec![1, 1, 0, 1, 1, 0]).unwrap();
+    let moved = arranged(2, points, vec![1, 1, 0, 1, 1, 0]).unwrap();
     assert_eq!(moved.order(), shelf.order());
     assert_ne!(moved, shelf);
 }
 
-/// A shelf fills up from its lowest free number and is emptied again; after each step it is arranged as a shelf built of what it holds.
+/// A shelf fills up from its lowest free number and is emptied again; after each step it is arranged as a shelf made of what it holds.
 #[test]
 fn from_empty_to_full_and_back() {
     for k in 1..=4 {
         let mut shelf = Shelf::with_room(k, 20).unwrap();
         let same = |shelf: &mut Shelf| {
             shelf.arrange().unwrap();
-            let built = Shelf::build_live(k, shelf.points(), shelf.live()).unwrap();
-            assert_eq!(*shelf, built);
+            assert_eq!(shelf.arrange(), Ok(true));
+            let made = arranged(k, shelf.points(), shelf.live()).unwrap();
+            assert_eq!(*shelf, made);
         };
         for number in 0..20 {
             let point: Vec<i32> = (0..k).map(|s| (number * 7 + s as i32 * 5) % 11).collect();
@@ -121,7 +134,7 @@ fn freed_first() {
 #[test]
 fn order_left_alone() {
     let everywhere = Region::everywhere(1).unwrap();
-    let mut shelf = Shelf::build(1, vec![0, 10, 20]).unwrap();
+    let mut shelf = Shelf::new(1, vec![0, 10, 20]).unwrap();
     shelf.withdraw(0).unwrap();
     assert_eq!(shelf.order(), [0, 1]);
     assert_eq!(shelf.screen(&everywhere), Err(Refusal::NotTheTree));
@@ -146,7 +159,9 @@ fn order_left_alone() {
 /// An order that has no place for a newcomer's number gets one, which holds no number yet.
 #[test]
 fn short_order() {
-    let mut shelf = Shelf::with_live_order(1, vec![0, 10], vec![1, 0], vec![0]).unwrap();
+    let given = Shelf::with_order(1, vec![0, 10], vec![1, 0], vec![0]);
+    let (mut shelf, already) = given.unwrap();
+    assert!(already);
     assert_eq!(shelf.take(&[5]), Ok(1));
     let everywhere = Region::everywhere(1).unwrap();
     assert_eq!(shelf.screen(&everywhere), Err(Refusal::NotTheTree));
@@ -158,10 +173,12 @@ fn short_order() {
 #[test]
 fn borrowed() {
     let (points, live, order) = ([0, 10, 20], [1, 0, 1], [0, 2]);
-    let mut shelf = Shelf::with_live_order(1, &points[..], &live[..], &order[..]).unwrap();
+    let given = Shelf::with_borrowed_order(1, &points[..], &live[..], &order);
+    let mut shelf = given.unwrap();
+    assert_eq!(shelf.arrange(), Ok(true));
     assert_eq!(shelf.take(&[-5]), Ok(1));
     shelf.withdraw(2).unwrap();
-    shelf.arrange().unwrap();
+    assert_eq!(shelf.arrange(), Ok(false));
     assert_eq!(shelf.order(), [1, 0]);
     assert_eq!((points, live, order), ([0, 10, 20], [1, 0, 1], [0, 2]));
 }
@@ -191,14 +208,12 @@ fn refused_changes() {
 #[test]
 fn refused_bytes() {
     for live in [&[][..], &[1], &[1, 1, 1], &[1, 2], &[255, 0]] {
-        let built = Shelf::build_live(1, vec![0, 32_768], live);
-        assert_eq!(built, Err(Refusal::LiveBytes), "{live:?}");
-        let checked = Shelf::with_live_order(1, vec![0, 32_768], live, vec![]);
-        assert_eq!(checked, Err(Refusal::LiveBytes), "{live:?}");
+        let refused = Shelf::with_order(1, vec![0, 32_768], live, vec![]);
+        assert_eq!(refused, Err(Refusal::LiveBytes), "{live:?}");
     }
-    let built = Shelf::build_live(1, vec![0, 32_768], vec![1, 1]);
-    assert_eq!(built, Err(Refusal::CoordinateRange));
-    assert!(Shelf::build_live(1, vec![0, 32_768], vec![1, 0]).is_ok());
+    let refused = arranged(1, vec![0, 32_768], vec![1, 1]);
+    assert_eq!(refused, Err(Refusal::CoordinateRange));
+    assert!(arranged(1, vec![0, 32_768], vec![1, 0]).is_ok());
 }
 
 /// Room is made for as many numbers as there may be, and refused beyond.
@@ -229,8 +244,8 @@ fn in_order() {
     assert_eq!(regions(&[0, 1], &wrong), 15);
     assert_eq!(regions(&[0, 1], &[1, 0]), 14);
     assert_eq!((lists, counts), ([70; 2], [71; 3]));
-    assert_eq!(raw::build(1, 2, &[0, 1], &wrong, &mut []), 15);
-    assert_eq!(raw::build(1, 2, &[0, 1], &[1, 0], &mut []), 4);
+    let arrange = |live: &[u8]| raw::arrange(1, 2, &[0, 1], live, &mut []).code;
+    assert_eq!((arrange(&wrong), arrange(&[1, 0])), (15, 4));
     let explain = |order: &[u32]| {
         let answer = raw::explain(1, 2, 0, 1, &[0, 1], &[1, 0], order, &[], &[], &[]);
         answer.code

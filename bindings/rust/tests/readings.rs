@@ -122,7 +122,7 @@ fn on_a_shelf() {
     let values = [-128.0, -LEAST, -0.0, 0.3, BELOW_128];
     let readings = values.map(|value| Reading::Colour(value, -1.0, value));
     let made = readings.map(|reading| reading.point().unwrap().unwrap_or_default());
-    let shelf = Shelf::build(3, made.concat()).unwrap();
+    let shelf = Shelf::new(3, made.concat()).unwrap();
     assert_eq!(shelf.len(), 5);
     assert_eq!(shelf.point(4), Some(&[32_767, -256, 32_767][..]));
 }

@@ -37,7 +37,7 @@ fn reasons(shelf: &Shelf, region: &Region) -> Vec<Reason> {
 
 /// The reasons of the six points, with these faces.
 fn of_a(normals: &[i32], offsets: &[i64], marks: &[u8]) -> Vec<Reason> {
-    let shelf = Shelf::build(2, &A[..]).unwrap();
+    let shelf = Shelf::new(2, &A[..]).unwrap();
     assert_eq!(shelf.order(), A_ORDER);
     let region = Region::with_marks(2, normals.to_vec(), offsets.to_vec(), marks.to_vec());
     reasons(&shelf, &region.unwrap())
@@ -162,7 +162,7 @@ fn sentences() {
 #[test]
 fn least_margin() {
     let below = Region::new(4, vec![32_767; 4], vec![MAX_OFFSET]).unwrap();
-    let shelf = Shelf::build(4, vec![-32_768; 4]).unwrap();
+    let shelf = Shelf::new(4, vec![-32_768; 4]).unwrap();
     assert_eq!(reasons(&shelf, &below), [out_with(0, 0, -MAX_MARGIN)]);
 }
 
@@ -170,7 +170,7 @@ fn least_margin() {
 #[test]
 fn by_list() {
     let points: Vec<i32> = (0..300).map(|i| i * 7919 % 101).collect();
-    let shelf = Shelf::build(3, &points[..]).unwrap();
+    let shelf = Shelf::new(3, &points[..]).unwrap();
     for offset in (0..400).step_by(20) {
         let region = Region::new(3, vec![1, 2, 1, -1, 0, 1], vec![offset, -50]).unwrap();
         let reasons = reasons(&shelf, &region);

@@ -8,30 +8,32 @@ fn faces(h: usize) -> Result<Region, Refusal> {
     Region::new(1, vec![0; h], vec![0; h])
 }
 
-/// Building a shelf meets 1, 2, 3 and 5.
+/// Making a shelf meets 1, 2, 3 and 5.
 #[test]
-fn of_build() {
-    let refused = |k, points: &[i32]| Shelf::build(k, points).map(|_| ()).unwrap_err();
+fn of_new() {
+    let refused = |k, points: &[i32]| Shelf::new(k, points).map(|_| ()).unwrap_err();
     assert_eq!(refused(0, &[]), Refusal::Dimension);
     assert_eq!(refused(5, &[0; 5]), Refusal::Dimension);
     assert_eq!(refused(1, &vec![0; MAX_POINTS + 1]), Refusal::TooManyPoints);
     assert_eq!(refused(4, &[0; 7]), Refusal::PointsLength);
     assert_eq!(refused(1, &[32_768]), Refusal::CoordinateRange);
-    assert!(Shelf::build(1, vec![0; MAX_POINTS]).is_ok());
+    assert!(Shelf::new(1, vec![0; MAX_POINTS]).is_ok());
 }
 
-/// Taking an order meets 4 and 9 as well.
+/// Taking an order meets 4 as well, and never 9.
 #[test]
 fn of_order() {
-    let refused = |points: &[i32], order: &[u32]| {
-        let shelf = Shelf::with_order(1, points, order);
-        shelf.map(|_| ()).unwrap_err()
+    let taken = |points: &[i32], order: &[u32]| {
+        let shelf = Shelf::with_order(1, points, vec![1; 2], order.to_vec());
+        shelf.map(|(shelf, already)| (shelf.order().to_vec(), already))
     };
-    assert_eq!(refused(&[3, 3], &[0]), Refusal::ShortBuffer);
-    assert_eq!(refused(&[3, -32_769], &[0, 1]), Refusal::CoordinateRange);
-    assert_eq!(refused(&[3, 3], &[1, 0]), Refusal::NotTheTree);
-    assert_eq!(refused(&[3, 3], &[0, 0]), Refusal::NotTheTree);
-    assert_eq!(refused(&[3, 3], &[0, 2]), Refusal::NotTheTree);
+    assert_eq!(taken(&[3, 3], &[0]), Err(Refusal::ShortBuffer));
+    let range = taken(&[3, -32_769], &[0, 1]);
+    assert_eq!(range, Err(Refusal::CoordinateRange));
+    for order in [[1, 0], [0, 0], [0, 2], [0, 1]] {
+        let already = order == [0, 1];
+        assert_eq!(taken(&[3, 3], &order), Ok((vec![0, 1], already)));
+    }
 }
 
 /// Making a region meets 1, 6, 7 and 8 ...
@@ -119,7 +121,7 @@ fn of_one_point() {
 /// Listing meets 4 and 7, and leaves the buffer alone.
 #[test]
 fn of_list() {
-    let shelf = Shelf::build(2, vec![1, 2, 3, 4]).unwrap();
+    let shelf = Shelf::new(2, vec![1, 2, 3, 4]).unwrap();
     let mut buffer = [70, 71, 72];
     let everywhere = Region::everywhere(2).unwrap();
     let short = shelf.list(&everywhere, &mut buffer[..1]);
@@ -132,7 +134,7 @@ fn of_list() {
 /// Listing several regions meets 14, 4 and 7, in this order, and leaves the buffer alone.
 #[test]
 fn of_list_all() {
-    let shelf = Shelf::build(2, vec![1, 2, 3, 4]).unwrap();
+    let shelf = Shelf::new(2, vec![1, 2, 3, 4]).unwrap();
     let (everywhere, other) = (Region::everywhere(2).unwrap(), faces(1).unwrap());
     let mut buffer = [70; 2 * MAX_REGIONS];
     let too_many = vec![other.clone(); MAX_REGIONS + 1];
@@ -151,7 +153,7 @@ fn of_list_all() {
 /// Faces of one dimension too few and one too many, whose normals joined are as long as they should be, are refused all the same.
 #[test]
 fn even_when_joined() {
-    let shelf = Shelf::build(2, vec![1, 2, 3, 4]).unwrap();
+    let shelf = Shelf::new(2, vec![1, 2, 3, 4]).unwrap();
     let less = faces(1).unwrap();
     let more = Region::new(3, vec![0; 3], vec![0]).unwrap();
     let mut buffer = [70; 4];
@@ -165,7 +167,7 @@ fn even_when_joined() {
 /// Screening meets 7.
 #[test]
 fn of_screen() {
-    let shelf = Shelf::build(2, vec![1, 2, 3, 4]).unwrap();
+    let shelf = Shelf::new(2, vec![1, 2, 3, 4]).unwrap();
     let other = shelf.screen(&faces(1).unwrap());
     assert_eq!(other, Err(Refusal::FacesLength));
 }
@@ -173,7 +175,7 @@ fn of_screen() {
 /// Explaining meets 7, and 17 for a number that no point has.
 #[test]
 fn of_explain() {
-    let shelf = Shelf::build(2, vec![1, 2, 3, 4]).unwrap();
+    let shelf = Shelf::new(2, vec![1, 2, 3, 4]).unwrap();
     let everywhere = Region::everywhere(2).unwrap();
     for number in [2, 3, 65_536, u32::MAX] {
         let refused = shelf.explain(&everywhere, number);
@@ -182,7 +184,7 @@ fn of_explain() {
         assert_eq!(other, Err(Refusal::FacesLength));
     }
     assert!(shelf.explain(&everywhere, 1).is_ok());
-    let empty = Shelf::build(2, vec![]).unwrap();
+    let empty = Shelf::new(2, vec![]).unwrap();
     assert_eq!(empty.explain(&everywhere, 0), Err(Refusal::NotLive));
 }
 

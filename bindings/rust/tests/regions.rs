@@ -32,7 +32,7 @@ fn as_alone(shelf: &Shelf, regions: &[Region], listings: &[Listing]) {
 #[test]
 fn any_number() {
     let points: Vec<i32> = (0..600).map(|i| i * 7919 % 101).collect();
-    let shelf = Shelf::build(3, &points[..]).unwrap();
+    let shelf = Shelf::new(3, &points[..]).unwrap();
     let all = regions(MAX_REGIONS);
     for count in 1..=MAX_REGIONS {
         let mut buffer = vec![77; count * shelf.len() + 3];
@@ -46,7 +46,7 @@ fn any_number() {
 /// Bins beside each other have every number once.
 #[test]
 fn bins() {
-    let shelf = Shelf::build(1, (0..100).collect::<Vec<i32>>()).unwrap();
+    let shelf = Shelf::new(1, (0..100).collect::<Vec<i32>>()).unwrap();
     let bins: Vec<Region> = (0..10).map(|i| from_to(10 * i, 10 * i + 10)).collect();
     let mut buffer = vec![0; bins.len() * shelf.len()];
     let listings = shelf.list_all(&bins, &mut buffer).unwrap();
@@ -58,7 +58,7 @@ fn bins() {
 /// No points: a listing for each region, with nothing in it.
 #[test]
 fn no_points() {
-    let shelf = Shelf::build(3, vec![]).unwrap();
+    let shelf = Shelf::new(3, vec![]).unwrap();
     let listings = shelf.list_all(&regions(5), &mut []).unwrap();
     let empty = |listing: &Listing| listing.inside().is_empty() && listing.outside().len() == 0;
     assert!(listings.len() == 5 && listings.iter().all(empty));

@@ -14,8 +14,8 @@ fn two_faces() -> Region {
 /// A shelf knows its points and its order, whether it owns them or borrows them.
 #[test]
 fn owned_and_borrowed() {
-    let owned = Shelf::build(2, A.to_vec()).unwrap();
-    let borrowed = Shelf::build(2, &A[..]).unwrap();
+    let owned = Shelf::new(2, A.to_vec()).unwrap();
+    let borrowed = Shelf::new(2, &A[..]).unwrap();
     assert_eq!(owned, borrowed);
     assert_eq!((owned.k(), owned.len()), (2, 6));
     assert_eq!(owned.points(), A);
@@ -24,22 +24,23 @@ fn owned_and_borrowed() {
     assert_eq!(owned.point(6), None);
 }
 
-/// An order that was built before is taken; what stands behind its last slot is cut off.
+/// An order that was arranged before is taken as it is; what stands behind its last slot is cut off.
 #[test]
 fn existing_order() {
     let mut longer = A_ORDER.to_vec();
     longer.extend([99, 99]);
-    let borrowed = Shelf::with_order(2, &A[..], &longer[..]).unwrap();
+    let borrowed = Shelf::with_borrowed_order(2, &A[..], vec![1; 6], &longer).unwrap();
     assert_eq!(borrowed.order(), A_ORDER);
-    let owned = Shelf::with_order(2, &A[..], longer.clone()).unwrap();
+    let (owned, already) = Shelf::with_order(2, &A[..], vec![1; 6], longer.clone()).unwrap();
+    assert!(already);
     assert_eq!(owned, borrowed);
-    assert_eq!(owned, Shelf::build(2, &A[..]).unwrap());
+    assert_eq!(owned, Shelf::new(2, &A[..]).unwrap());
 }
 
 /// Both lists come in shelf order, and the outside one can be run from either end.
 #[test]
 fn both_lists() {
-    let shelf = Shelf::build(2, &A[..]).unwrap();
+    let shelf = Shelf::new(2, &A[..]).unwrap();
     let mut buffer = [80; 8];
     let listing = shelf.list(&two_faces(), &mut buffer).unwrap();
     assert_eq!(listing.inside(), [2, 4]);
@@ -54,7 +55,7 @@ fn both_lists() {
 /// One buffer serves many listings.
 #[test]
 fn buffer_used_again() {
-    let shelf = Shelf::build(2, &A[..]).unwrap();
+    let shelf = Shelf::new(2, &A[..]).unwrap();
     let mut buffer = vec![0; shelf.len()];
     for (offset, inside) in [(1, 6), (8, 0), (5, 2)] {
         let region = Region::everywhere(2).unwrap();
@@ -68,7 +69,7 @@ fn buffer_used_again() {
 /// A screening has the first number inside, or none, and the visits up to it.
 #[test]
 fn first_inside() {
-    let shelf = Shelf::build(2, &A[..]).unwrap();
+    let shelf = Shelf::new(2, &A[..]).unwrap();
     let screening = shelf.screen(&two_faces()).unwrap();
     assert_eq!((screening.found(), screening.visits()), (Some(2), 3));
     for (offset, found, visits) in [(1, Some(1), 0), (5, Some(3), 2), (8, None, 0)] {
@@ -82,7 +83,7 @@ fn first_inside() {
 /// Number 0 found is not the same as none, and none may have cost visits.
 #[test]
 fn number_0_or_none() {
-    let shelf = Shelf::build(1, vec![0, 10]).unwrap();
+    let shelf = Shelf::new(1, vec![0, 10]).unwrap();
     for (least, greatest, found, visits) in
         [(-1, 5, Some(0), 1), (4, 6, None, 2), (11, 12, None, 0)]
     {
@@ -96,7 +97,7 @@ fn number_0_or_none() {
 #[test]
 fn empty_shelf() {
     for k in 1..=4 {
-        let shelf = Shelf::build(k, Vec::new()).unwrap();
+        let shelf = Shelf::new(k, Vec::new()).unwrap();
         assert!(shelf.is_empty());
         let region = Region::everywhere(k).unwrap();
         let listing = shelf.list(&region, &mut []).unwrap();
@@ -123,7 +124,7 @@ fn faces_and_points() {
 /// A point on an open face is outside, for all three calls; a point beside the face is as before.
 #[test]
 fn on_an_open_face() {
-    let shelf = Shelf::build(2, &A[..]).unwrap();
+    let shelf = Shelf::new(2, &A[..]).unwrap();
     let everywhere = || Region::everywhere(2).unwrap();
     let half = everywhere().with_face(&[1, 1], 7).unwrap();
     let open = half.clone().with_open_face(&[-1, 0], -6).unwrap();
@@ -147,7 +148,7 @@ fn on_an_open_face() {
 /// open to the same face marked open.
 #[test]
 fn corner_on_an_open_face() {
-    let shelf = Shelf::build(1, vec![5, 6, 7]).unwrap();
+    let shelf = Shelf::new(1, vec![5, 6, 7]).unwrap();
     let mut buffer = [0; 3];
     let from_5 = Region::new(1, vec![1], vec![5]).unwrap();
     assert_eq!(shelf.list(&from_5, &mut buffer).unwrap().visits(), 0);
@@ -163,7 +164,7 @@ fn corner_on_an_open_face() {
 /// Two bins side by side along a face, closed in the one and open in the other, hold every point once.
 #[test]
 fn side_by_side() {
-    let shelf = Shelf::build(2, &A[..]).unwrap();
+    let shelf = Shelf::new(2, &A[..]).unwrap();
     let (mut some, mut others) = ([0; 6], [0; 6]);
     for offset in -1..16 {
         let closed = Region::everywhere(2).unwrap().with_face(&[1, 1], offset);
@@ -180,12 +181,14 @@ fn side_by_side() {
 #[test]
 fn many_threads() {
     let points: Vec<i32> = (0..3000).map(|i| i * 7919 % 65_536 - 32_768).collect();
-    let shelf = Shelf::build(3, &points[..]).unwrap();
+    let shelf = Shelf::new(3, &points[..]).unwrap();
     let region = Region::new(3, vec![1, 2, 3], vec![100]).unwrap();
     let work = || {
         let mut buffer = vec![0; shelf.len()];
         let listing = shelf.list(&region, &mut buffer).unwrap();
-        assert_eq!(raw::check(3, 1000, &points, shelf.live(), shelf.order()), 0);
+        let mut order = shelf.order().to_vec();
+        let answer = raw::arrange(3, 1000, &points, shelf.live(), &mut order);
+        assert_eq!((answer.code, answer.already), (0, 1));
         assert_eq!(
             shelf.screen(&region).unwrap().found(),
             listing.inside().first().copied()

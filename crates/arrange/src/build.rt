@@ -10,14 +10,14 @@ ghost use Rattle.terms.specs.Tree.{members, isTree};
 ghost use Rattle.theory.specs.Tested.{TestedPoints};
 ghost use Rattle.arrange.specs.Placed.{Placed};
 ghost use Rattle.arrange.specs.Arranged.{Arrangeable, Arranged};
-use crate::belongs::belongs;
+use crate::below::is_below;
 use crate::choose::choose;
 use crate::key::write_keys;
 use crate::key::write_numbers;
 use crate::live::fill_live;
 use terms::axis::next_axis;
 
-// Puts the number that belongs at the place m of the run there, by the keys on dimension s.
+// Puts the number whose place is m of the run there, by the keys on dimension s.
 fn place_node(k: usize, points: &[i32], s: usize, run: &mut [u32], m: usize)
     requires { ⌜ Arrangeable k (now points) s (now run) ⌝ }
     requires { ⌜ m < length (now run) ⌝ }
@@ -49,7 +49,7 @@ fn arrange(k: usize, points: &[i32], s: usize, run: &mut [u32])
     arrange(k, points, next, &mut run[r..]);
 }
 
-// Fills the order, which has a slot for each, with the numbers below m that belong, rising.
+// Fills the order, which has a slot for each, with the numbers below m, rising.
 fn fill(m: usize, order: &mut [u32])
     requires { ⌜ m ≤ 65535 ⌝ }
     requires { ⌜ length (now order) ≡ length (members (below m) m) ⌝ }
@@ -58,7 +58,7 @@ fn fill(m: usize, order: &mut [u32])
     let mut at: usize = 0;
     for n in 0..m {
         let p = n as u32;
-        if belongs(m, p) {
+        if is_below(m, p) {
             order[at] = p;
             at += 1;
         }

@@ -1,7 +1,7 @@
 // The checker: whether an order is the tree of its points, by one descent and no memory besides the stack.
 // It carries by value, for each dimension, the least key allowed and the first not allowed. Below the root a run of three slots at most is decided at
 // once; most slots of a shelf stand in such runs.
-use crate::belongs::belongs;
+use crate::below::is_below;
 use crate::key::key;
 use crate::live::all_live;
 use terms::axis::next_axis;
@@ -16,7 +16,7 @@ ghost use Rattle.terms.specs.Tree.{isTree};
 ghost use Rattle.theory.specs.Tested.{TestedPoints};
 ghost use Rattle.arrange.specs.Checked.{RunKnown, NoneDead, Descends, numberAllowed, threeAllowed, branchAllowed};
 
-// Whether numbers p, q and r belong, each with its key on every dimension at least the least there and below the end.
+// Whether numbers p, q and r are below m, each with its key on every dimension at least the least there and below the end.
 // The turns are four at most, a constant, so that a compiler can lay them out one after another.
 fn three_allowed(
     k: usize,
@@ -31,7 +31,7 @@ fn three_allowed(
     requires { ⌜ RunKnown k m (now points) (p ∷ q ∷ r ∷ []) ⌝ }
     ensures { λ t. ⌜ t ≡ threeAllowed k m (now (points .entry)) least end p q r ⌝ }
 {
-    if !(belongs(m, p) & belongs(m, q) & belongs(m, r)) {
+    if !(is_below(m, p) & is_below(m, q) & is_below(m, r)) {
         return false;
     }
     let mut d: usize = 0;

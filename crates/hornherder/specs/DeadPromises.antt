@@ -6,6 +6,7 @@ use mathlib.Core.List.{List}
 use Prim.Native.Nat.{ℕ, _*_, _≤_}
 use lib.ListN.{length}
 use lib.IntN.{ℤ}
+use Rattle.terms.specs.declared.Arranging.{Arranging}
 use Rattle.terms.specs.declared.Listing.{Listing}
 use Rattle.terms.specs.declared.Screening.{Screening}
 use Rattle.terms.specs.declared.Explaining.{Explaining}
@@ -14,8 +15,7 @@ use Rattle.terms.specs.Lent.{Stock, Order, Faces, Regions, stock}
 use Rattle.terms.specs.Live.{isSet, isLive}
 use Rattle.terms.specs.Points.{below, pointOf, belongsTo, slotsOf, isCoordinate}
 use Rattle.terms.specs.LivePoints.{membersInRange}
-use Rattle.terms.specs.BuildCall.{Built}
-use Rattle.terms.specs.CheckCall.{checkAnswer}
+use Rattle.terms.specs.ArrangeCall.{ArrangedAs}
 use Rattle.terms.specs.ListCall.{ListedAs}
 use Rattle.terms.specs.ScreenCall.{screenAnswer}
 use Rattle.terms.specs.ExplainCall.{explainAnswer}
@@ -25,8 +25,7 @@ use Rattle.theory.specs.StockNumbers.{stock-full}
 use Rattle.theory.specs.PointsInRange.{full-in-range}
 use Rattle.theory.specs.MembersAlike.{MembersAlike}
 use Rattle.theory.specs.DeadCoordinates.{
-  built-alike,
-  check-answer-alike,
+  arranged-alike,
   list-answer-alike,
   list-after-alike,
   screen-answer-alike,
@@ -43,11 +42,8 @@ module _ (k n : ℕ) (live : List ℕ) {points others : List ℤ} (w : MembersAl
   abbrev t : Stock
   t = stock k n others live
 
-  pub build-reads-no-dead-point : {a b : ℕ} {x y : Order} → Built s o a x → Built t o b y → (a ≡ b) × (x .slots ≡ y .slots)
-  build-reads-no-dead-point e f = built-alike k n live w e f
-
-  pub check-reads-no-dead-point : {a b : ℕ} → a ≡ checkAnswer s o → b ≡ checkAnswer t o → a ≡ b
-  check-reads-no-dead-point e f = e ∙ check-answer-alike k n live w o ∙ sym f
+  pub arrange-reads-no-dead-point : {a b : Arranging} {x y : Order} → ArrangedAs s o a x → ArrangedAs t o b y → (a ≡ b) × (x .slots ≡ y .slots)
+  arrange-reads-no-dead-point e f = arranged-alike k n live w o e f
 
   pub list-reads-no-dead-point : (f : Faces) (list : List ℕ) {a b : Listing} {x y : List ℕ} → ListedAs s o f list a x → ListedAs t o f list b y → (a ≡ b) × (x ≡ y)
   list-reads-no-dead-point f list e g =

@@ -17,7 +17,7 @@ use Rattle.terms.specs.Tests.{bit, count}
 use Rattle.terms.specs.Lent.{Stock, Order, Faces}
 use Rattle.terms.specs.Points.{pointOf, belongsTo, slotsOf}
 use Rattle.terms.specs.Run.{middle}
-use Rattle.terms.specs.Tree.{treeRun, shelfRun}
+use Rattle.terms.specs.Tree.{treeRun, shelfRun, isShelf}
 use Rattle.terms.specs.Region.{Region, region, reach, above, isBelow, inside}
 use Rattle.terms.specs.Visits.{openSlots}
 use Rattle.terms.specs.Margin.{margin}
@@ -48,6 +48,7 @@ use Rattle.theory.specs.ExplainCall.{
   picture-stands,
   picture-reason,
   picture-reason-only,
+  explain-nine,
 }
 
 -- A reason is answered with the number 0.
@@ -97,7 +98,11 @@ module _ (s : Stock) (o : Order) (f : Faces) (p : ℕ) {b : Explaining} (e : b �
       let n : explainCode s o f p ≢ 0 = λ z. m (explain-number ∙ z) in
       e ∙ if-refused (explainCode s o f p) _ _ n ∙ rw (← explain-number) refl
 
-  -- Places from n on are not read.
+  -- "The list calls still refuse a wrong order": where the call is done with another order, it is 9 with one that is not the shelf.
+  pub explain-nine-for-a-wrong-order : (q : Order) → explainCode s q f p ≡ 0 → slotsOf s ≤ length (o .slots) → isShelf s o ≡ false → b .code ≡ 9
+  explain-nine-for-a-wrong-order q z room other = explain-number ∙ explain-nine s o q f p z room other
+
+  -- Places from v on are not read.
   pub explain-reads-v-slots : (q : Order) → shelfRun s o ≡ shelfRun s q → {c : Explaining} → c ≡ explainAnswer s q f p → b ≡ c
   explain-reads-v-slots q same g = e ∙ explain-reads s o q f p same ∙ sym g
 

@@ -1,10 +1,8 @@
 pub mod Ranges
 pub mod First
 pub mod Live
-pub mod BuildOutcome
-pub mod BuildPromises
-pub mod CheckOutcome
-pub mod CheckPromises
+pub mod ArrangeOutcome
+pub mod ArrangePromises
 pub mod ListOutcome
 pub mod ListPromises
 pub mod ListRegionsOutcome

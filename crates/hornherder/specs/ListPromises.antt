@@ -1,7 +1,7 @@
 -- The demands, read off the list call's contract. Each follows from `theory` in a line or two.
-use mathlib.Core.Path.{_≡_, refl, sym, ap, _∙_}
+use mathlib.Core.Path.{_≡_, refl, sym, _∙_}
 use mathlib.Core.Logic.{_≢_}
-use mathlib.Core.Bool.{true}
+use mathlib.Core.Bool.{true, false}
 use mathlib.Core.List.{List}
 use Prim.Native.Nat.{ℕ, _+_, _*_, _≤_, _<_}
 use lib.ListN.{length, take, drop, replicate}
@@ -10,7 +10,7 @@ use Rattle.whole.specs.IndexedTotal.{totalTo}
 use Rattle.terms.specs.declared.Listing.{Listing}
 use Rattle.terms.specs.Lent.{Stock, Order, Faces}
 use Rattle.terms.specs.Points.{belongsTo, slotsOf}
-use Rattle.terms.specs.Tree.{eachOnce, shelfRun}
+use Rattle.terms.specs.Tree.{eachOnce, shelfRun, isShelf}
 use Rattle.terms.specs.Region.{region}
 use Rattle.terms.specs.Bound.{S, isSquare}
 use Rattle.terms.specs.ListCall.{listRefusals, listCode, listAnswer, ListedAs}
@@ -20,7 +20,7 @@ use Rattle.theory.specs.InsideAndOutside.{shelf-lists-length, shelf-places-each
 use Rattle.theory.specs.ClosedFaces.{closed-list-answer, closed-list-after}
 use Rattle.theory.specs.FaceLentAlone.{faceAlone}
 use Rattle.theory.specs.VisitsOfTheListCall.{list-visits-le-faces, list-visits-le-S}
-use Rattle.theory.specs.ListCall.{listed-code, list-first, list-passed, list-refused, list-front, list-later, list-answer-reads, list-after-reads}
+use Rattle.theory.specs.ListCall.{listed-code, list-first, list-passed, list-refused, list-front, list-later, list-answer-reads, list-after-reads, list-nine}
 
 module _ (s : Stock) (o : Order) (f : Faces) (list : List ℕ) where
   module _ {a : Listing} {x : List ℕ} (e : ListedAs s o f list a x) where
@@ -34,6 +34,12 @@ module _ (s : Stock) (o : Order) (f : Faces) (list : List ℕ) where
     -- The number is the first refusal that holds in the order of testing, and 0 where none does.
     pub list-answers-the-first : FirstHeld (listRefusals s o f list) (a .code)
     list-answers-the-first = rw code (list-first s o f list)
+
+    -- "The list calls still refuse a wrong order", "decided by 9 over the live pictures as they now are": where the call is done with another order, it is 9 with one
+    -- that is not the shelf, as where it lacks a live number or holds one that is none.
+    pub list-nine-for-a-wrong-order : {q : Order} {b : Listing} {y : List ℕ} → ListedAs s q f list b y → b .code ≡ 0 → slotsOf s ≤ length (o .slots)
+        → isShelf s o ≡ false → a .code ≡ 9
+    list-nine-for-a-wrong-order {q} g z room other = code ∙ list-nine s o q f list (sym (listed-code s q f list g) ∙ z) room other
 
     -- A refusal changes no lent number.
     pub list-refused-writes-nothing : a .code ≢ 0 → x ≡ list

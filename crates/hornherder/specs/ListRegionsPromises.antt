@@ -2,7 +2,7 @@
 -- alone. Each follows from `theory` in a few lines.
 use mathlib.Core.Path.{_≡_, refl, sym, ap, _∙_}
 use mathlib.Core.Logic.{_≢_}
-use mathlib.Core.Bool.{true}
+use mathlib.Core.Bool.{true, false}
 use mathlib.Core.List.{List}
 use Prim.Native.Nat.{ℕ, _+_, _*_, _≤_, _<_}
 use native.Mathlib.Omega.{arith}
@@ -13,7 +13,7 @@ use Rattle.whole.specs.IndexedTotal.{totalTo}
 use Rattle.terms.specs.declared.Listing.{Listing}
 use Rattle.terms.specs.Lent.{Stock, Order, Faces, Regions}
 use Rattle.terms.specs.Points.{belongsTo, slotsOf}
-use Rattle.terms.specs.Tree.{eachOnce, shelfRun}
+use Rattle.terms.specs.Tree.{eachOnce, shelfRun, isShelf}
 use Rattle.terms.specs.EndToEnd.{part}
 use Rattle.terms.specs.RegionFaces.{facesIn, facesOfRegion}
 use Rattle.terms.specs.ThreeCounts.{countsOf}
@@ -34,6 +34,7 @@ use Rattle.theory.specs.ListRegionsCall.{
   region-done,
   region-lists,
   region-counts,
+  list-regions-nine,
 }
 use Rattle.hornherder.specs.ListPromises.{list-counts-v, list-holds-each-once, visits-at-most-the-faces, visits-at-most-hS}
 
@@ -51,6 +52,10 @@ module _ (s : Stock) (o : Order) (g : Regions) (lists counts : List ℕ) {a : �
   list-regions-refused-writes-nothing m =
       let w = list-regions-refused s o g lists counts (λ z. m (e .answered ∙ z)) in
       (e .listed ∙ w .0, e .counted ∙ w .1)
+
+  -- "The list calls still refuse a wrong order": where the call is done with another order, it is 9 with one that is not the shelf.
+  pub list-regions-nine-for-a-wrong-order : (q : Order) → listRegionsCode s q g lists counts ≡ 0 → slotsOf s ≤ length (o .slots) → isShelf s o ≡ false → a ≡ 9
+  list-regions-nine-for-a-wrong-order q z room other = e .answered ∙ list-regions-nine s o q g lists counts z room other
 
   -- Neither the order's places from v on nor what the buffers held before is read: only whether they have room, and what they keep.
   module _ (q : Order) (listBuffer countsBuffer : List ℕ) (slots : shelfRun s o ≡ shelfRun s q)
@@ -113,7 +118,7 @@ module _ (s : Stock) (o : Order) (g : Regions) (lists counts : List ℕ) {a : �
         pub region-counts-are-the-list-call-s : countsOfRegion ≡ countsOf b
         region-counts-are-the-list-call-s = rw (e .counted, single .answered) (region-counts s o g lists counts accepted r l list room)
 
-      -- The list call on the faces of region r alone, with a list buffer of n zeros.
+      -- The list call on the faces of region r alone, with a list buffer of v zeros.
       abbrev zeros : List ℕ
       zeros = replicate (slotsOf s) 0
 
@@ -132,9 +137,9 @@ module _ (s : Stock) (o : Order) (g : Regions) (lists counts : List ℕ) {a : �
           sym (getD-take 3 (drop (r * 3) y) i 0 m ∙ getD-drop (r * 3) y i 0)
           ∙ ap (λ (ns : List ℕ). getD ns i 0) (region-counts-are-the-list-call-s zeros-room alone)
 
-      -- "Demands 2 and 3 hold of each": inside plus outside is n,
-      pub region-counts-n : getD y (r * 3 + 0) 0 + getD y (r * 3 + 1) 0 ≡ slotsOf s
-      region-counts-n = omega (arith, count-at 0 (omega arith), count-at 1 (omega arith), list-counts-v s o f zeros alone alone-done)
+      -- "Demands 2 and 3 hold of each": inside plus outside is v,
+      pub region-counts-v : getD y (r * 3 + 0) 0 + getD y (r * 3 + 1) 0 ≡ slotsOf s
+      region-counts-v = omega (arith, count-at 0 (omega arith), count-at 1 (omega arith), list-counts-v s o f zeros alone alone-done)
 
       -- the region's places hold each number once,
       pub region-holds-each-once : eachOnce (belongsTo s) (s .n) placesOfRegion ≡ true

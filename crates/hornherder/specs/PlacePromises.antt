@@ -22,10 +22,9 @@ use Rattle.terms.specs.Unmarked.{unmarkedPlaceAnswer}
 use Rattle.theory.specs.ClosedFaces.{closed-place-answer}
 use Rattle.theory.specs.FirstRefusal.{FirstHeld, if-code, if-refused}
 use Rattle.theory.specs.FirstRefusalIsLowest.{Lowest}
-use Rattle.theory.specs.Tested.{Between, Coordinates, coordinate-place}
+use Rattle.theory.specs.Tested.{Between, coordinate-place}
 use Rattle.theory.specs.Margins.{aboveBy, inside-by-margins, closed-inside-by-least, margin-between, LeastAt, least-words-of}
 use Rattle.theory.specs.PlaceCall.{PlacePassed, place-first, place-lowest, place-passed}
-use Rattle.descent.specs.Points.{lone-coord}
 
 module _ (k : ℕ) (point : List ℤ) (f : Faces) {a : Placing} (e : a ≡ placeAnswer k point f) where
   -- Two outcomes that satisfy the contract are equal.

@@ -15,6 +15,7 @@ use Rattle.terms.specs.declared.Screening.{Screening}
 use Rattle.terms.specs.declared.Explaining.{Explaining}
 use Rattle.terms.specs.declared.Placing.{Placing}
 use Rattle.terms.specs.declared.Listing.{Listing}
+use Rattle.terms.specs.declared.Arranging.{Arranging}
 use Rattle.terms.specs.declared.Taking.{Taking}
 use Rattle.terms.specs.Tests.{every}
 use Rattle.terms.specs.Lent.{Stock, Order, Faces, Regions}
@@ -24,8 +25,7 @@ use Rattle.terms.specs.LivePoints.{membersInRange}
 use Rattle.terms.specs.Value.{numerator, denominator}
 use Rattle.terms.specs.Reading.{nothing, valuesOf, valueAt, gives}
 use Rattle.terms.specs.PointCall.{numbersOf, placeOf, pointRefusals, pointCode, pointAnswer, MadeAs}
-use Rattle.terms.specs.BuildCall.{Built}
-use Rattle.terms.specs.CheckCall.{checkAnswer}
+use Rattle.terms.specs.ArrangeCall.{ArrangedAs}
 use Rattle.terms.specs.ListCall.{ListedAs}
 use Rattle.terms.specs.ListRegionsCall.{RegionsListedAs}
 use Rattle.terms.specs.ScreenCall.{screenAnswer}
@@ -41,8 +41,7 @@ use Rattle.theory.specs.FirstRefusalIsLowest.{Lowest}
 use Rattle.theory.specs.PointsInRange.{blind-in-range}
 use Rattle.theory.specs.NeverRefused.{
   never-answered,
-  build-never-five,
-  check-never-five,
+  arrange-never-five,
   list-never-five,
   list-regions-never-five,
   screen-never-five,
@@ -64,8 +63,7 @@ use Rattle.theory.specs.PointCall.{
   nothing-made,
   nothing-after,
 }
-use Rattle.hornherder.specs.BuildPromises.{build-answers-the-first}
-use Rattle.hornherder.specs.CheckPromises.{check-answers-the-first}
+use Rattle.hornherder.specs.ArrangePromises.{arrange-answers-the-first}
 use Rattle.hornherder.specs.ListPromises.{list-answers-the-first}
 use Rattle.hornherder.specs.ListRegionsPromises.{list-regions-answers-the-first}
 use Rattle.hornherder.specs.ScreenPromises.{screen-answers-the-first}
@@ -145,11 +143,8 @@ module _ (s : Stock) (o : Order) (made : MadePoints (s .points)) where
   in-range : membersInRange (s .k) (pointOf s) (belongsTo s) (s .n) ≡ true
   in-range = blind-in-range (s .k) (s .points) (belongsTo s) (s .n) (made-points-fit made)
 
-  pub build-takes-made-points : {a : ℕ} {x : Order} → Built s o a x → a ≢ 5
-  build-takes-made-points e = never-answered (omega arith) (build-never-five s o in-range) (build-answers-the-first e)
-
-  pub check-takes-made-points : {a : ℕ} → a ≡ checkAnswer s o → a ≢ 5
-  check-takes-made-points e = never-answered (omega arith) (check-never-five s o in-range) (check-answers-the-first s o e)
+  pub arrange-takes-made-points : {a : Arranging} {x : Order} → ArrangedAs s o a x → a .code ≢ 5
+  arrange-takes-made-points e = never-answered (omega arith) (arrange-never-five s o in-range) (arrange-answers-the-first e)
 
   pub list-takes-made-points : (f : Faces) (list : List ℕ) {a : Listing} {x : List ℕ} → ListedAs s o f list a x → a .code ≢ 5
   list-takes-made-points f list e = never-answered (omega arith) (list-never-five s o in-range f list) (list-answers-the-first s o f list e)

@@ -1,7 +1,7 @@
 -- The demands, read off the screen call's contract, and how its answer stands to the list call's. Each follows from `theory` in a few lines.
 use mathlib.Core.Path.{_≡_, refl, sym, ap, _∙_}
 use mathlib.Core.Logic.{_≢_}
-use mathlib.Core.Bool.{true}
+use mathlib.Core.Bool.{true, false}
 use mathlib.Core.List.{List, [], _∷_, _++_}
 use Prim.Native.Nat.{ℕ, zero, suc, _*_, _≤_, _<_}
 use native.Mathlib.Omega.{arith}
@@ -11,7 +11,7 @@ use Rattle.terms.specs.declared.Listing.{Listing}
 use Rattle.terms.specs.declared.Screening.{Screening}
 use Rattle.terms.specs.Lent.{Stock, Order, Faces}
 use Rattle.terms.specs.Points.{pointOf, slotsOf}
-use Rattle.terms.specs.Tree.{shelfRun}
+use Rattle.terms.specs.Tree.{shelfRun, isShelf}
 use Rattle.terms.specs.Region.{region}
 use Rattle.terms.specs.Visits.{visits}
 use Rattle.terms.specs.Lists.{insides}
@@ -26,7 +26,7 @@ use Rattle.theory.specs.FirstRefusal.{FirstHeld, if-code, if-refused}
 use Rattle.theory.specs.ListCall.{listed-code}
 use Rattle.theory.specs.FaceLentAlone.{faceAlone}
 use Rattle.theory.specs.VisitsOfTheListCall.{list-visits-le-faces, list-visits-le-S}
-use Rattle.theory.specs.ScreenCall.{screen-first, screen-reads, screen-code-is-list-code, screen-visits-le, screen-visits-none}
+use Rattle.theory.specs.ScreenCall.{screen-first, screen-reads, screen-code-is-list-code, screen-visits-le, screen-visits-none, screen-nine}
 
 -- What a list of numbers says by its first entry.
 some : (ps : List ℕ) → (hasFirst ps ≡ 1 → 0 < length ps) × (0 < length ps → hasFirst ps ≡ 1)
@@ -84,7 +84,11 @@ module _ (s : Stock) (o : Order) (f : Faces) {b : Screening} (e : b ≡ screenAn
   pub screen-of-closed-faces : f .marks ≡ replicate (f .h) 0 → b ≡ unmarkedScreenAnswer s o f
   screen-of-closed-faces zeros = e ∙ closed-screen-answer f zeros s o
 
-  -- Places from n on are not read.
+  -- "The list calls still refuse a wrong order": where the call is done with another order, it is 9 with one that is not the shelf.
+  pub screen-nine-for-a-wrong-order : (q : Order) → screenCode s q f ≡ 0 → slotsOf s ≤ length (o .slots) → isShelf s o ≡ false → b .code ≡ 9
+  screen-nine-for-a-wrong-order q z room other = screen-number ∙ screen-nine s o q f z room other
+
+  -- Places from v on are not read.
   pub screen-reads-v-slots : (q : Order) → shelfRun s o ≡ shelfRun s q → {c : Screening} → c ≡ screenAnswer s q f → b ≡ c
   screen-reads-v-slots q same g = e ∙ screen-reads s o q f same ∙ sym g
 

@@ -1,8 +1,7 @@
-// The public calls, a file for each: build, check, list, list of several regions, screen, explain, take, withdraw, the test of one point, and the three that make
-// a point from a reading. Each makes its refusal tests first, then does the work. These twelve exports and the version are all that is public; they take any
+// The public calls, a file for each: arrange, list, list of several regions, screen, explain, take, withdraw, the test of one point, and the three that make
+// a point from a reading. Each makes its refusal tests first, then does the work. These eleven exports and the version are all that is public; they take any
 // numbers and any lent memory.
-pub mod build;
-pub mod check;
+pub mod arranging;
 pub mod explain;
 pub mod list;
 pub mod list_regions;

@@ -78,11 +78,11 @@ fn list_refusal(
     ensures { λ r. ⌜ Found (listRefusals (stock k n (now (points .entry)) (now (live .entry))) (orderOf (now (order .entry)))
         (faces h (now (normals .entry)) (now (offsets .entry)) (now (marks .entry))) (now (list .entry))) (liveCount n (now (live .entry))) (r .code) (r .slots) ⌝ }
 {
-    let shape = stock_refusal(k, n, points, live);
-    if shape.code != 0 {
-        return shape;
+    let stocked = stock_refusal(k, n, points, live);
+    if stocked.code != 0 {
+        return stocked;
     }
-    let v = shape.slots;
+    let v = stocked.slots;
     let room = list_room_refusal(v, order.len(), list.len());
     if room != 0 {
         return Tested {

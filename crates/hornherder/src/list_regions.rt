@@ -92,11 +92,11 @@ fn list_regions_refusal(
         (lentRegions regions (now («face_counts» .entry)) (now (normals .entry)) (now (offsets .entry)) (now (marks .entry)))
         (now (lists .entry)) (now (counts .entry))) (liveCount n (now (live .entry))) (r .code) (r .slots) ⌝ }
 {
-    let shape = stock_refusal(k, n, points, live);
-    if shape.code != 0 {
-        return shape;
+    let stocked = stock_refusal(k, n, points, live);
+    if stocked.code != 0 {
+        return stocked;
     }
-    let v = shape.slots;
+    let v = stocked.slots;
     let count = region_count_refusal(regions, face_counts);
     if count != 0 {
         return Tested {

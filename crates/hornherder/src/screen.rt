@@ -1,5 +1,5 @@
 // The screen call.
-use crate::build::build_refusal;
+use crate::arranging::arrange_refusal;
 use crate::refuse::Tested;
 use crate::refuse::face_refusal;
 use crate::refuse::tree_refusal;
@@ -71,11 +71,11 @@ pub fn screen_refusal(
     ensures { λ r. ⌜ Found (screenRefusals (stock k n (now (points .entry)) (now (live .entry))) (orderOf (now (order .entry)))
         (faces h (now (normals .entry)) (now (offsets .entry)) (now (marks .entry)))) (liveCount n (now (live .entry))) (r .code) (r .slots) ⌝ }
 {
-    let built = build_refusal(k, n, points, live, order);
-    if built.code != 0 {
-        return built;
+    let arranged = arrange_refusal(k, n, points, live, order);
+    if arranged.code != 0 {
+        return arranged;
     }
-    let v = built.slots;
+    let v = arranged.slots;
     let face = face_refusal(k, h, normals, offsets, marks);
     if face != 0 {
         return Tested {

@@ -4,7 +4,7 @@ ghost use mathlib.Core.Path.{_≡_};
 // The version of the interface: the number of the C header that belongs to it, one more with each change of the interface.
 #[no_mangle]
 pub extern "C" fn hornherder_version() -> u32
-    ensures { λ r. ⌜ r ≡ 9 ⌝ }
+    ensures { λ r. ⌜ r ≡ 10 ⌝ }
 {
-    9
+    10
 }

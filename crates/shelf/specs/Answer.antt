@@ -1,4 +1,4 @@
--- The program's answer to a text: number 10 if the text says no numbers; else what building and listing give, printed.
+-- The program's answer to a text: number 10 if the text says no numbers; else what arranging and listing give, printed.
 -- The buffers of both calls may hold anything at first, with room for the numbers of the shelf.
 use mathlib.Core.Path.{_≡_}
 use mathlib.Core.Logic.{_≢_}
@@ -6,11 +6,12 @@ use mathlib.Core.List.{List}
 use Prim.Native.Nat.{ℕ, _≤_}
 use lib.ListN.{length, take, replicate}
 use lib.IntN.{ℤ}
+use Rattle.terms.specs.declared.Arranging.{Arranging}
 use Rattle.terms.specs.declared.Listing.{Listing}
 use Rattle.terms.specs.Lent.{Stock, Order, Faces, stock, faces}
 use Rattle.terms.specs.Points.{slotsOf}
 use Rattle.terms.specs.Tree.{shelfRun}
-use Rattle.terms.specs.BuildCall.{Built}
+use Rattle.terms.specs.ArrangeCall.{ArrangedAs}
 use Rattle.terms.specs.ListCall.{listAnswer, listAfter}
 use Rattle.text.specs.Input.{Says}
 use Rattle.text.specs.Answer.{answerText, refusedText}
@@ -19,18 +20,19 @@ use Rattle.text.specs.Answer.{answerText, refusedText}
 abbrev pub doneText : Stock → Order → Listing → List ℕ → List ℕ
 doneText s o answer list = answerText (shelfRun s o) (answer .inside) (answer .outside) (answer .visits) (take (slotsOf s) list)
 
--- What is printed for an order that was built: the list call's refusal, or its lists.
+-- What is printed for an order that was arranged: the list call's refusal, or its lists.
 pub data Listed (s : Stock) (o : Order) (f : Faces) (printed : List ℕ) : Type 0 where
   list-refused : (list : List ℕ) → slotsOf s ≤ length list → listAnswer s o f list .code ≢ 0
       → printed ≡ refusedText (listAnswer s o f list .code) → Listed s o f printed
   list-done : (list : List ℕ) → slotsOf s ≤ length list → listAnswer s o f list .code ≡ 0
       → printed ≡ doneText s o (listAnswer s o f list) (listAfter s o f list) → Listed s o f printed
 
--- What is printed for the numbers of a text: the build call's refusal, or what listing the built order gives.
+-- What is printed for the numbers of a text: the arrange call's refusal, or what listing the arranged order gives.
 pub data Shelved (s : Stock) (f : Faces) (printed : List ℕ) : Type 0 where
-  build-refused : (o after : Order) (number : ℕ) → slotsOf s ≤ length (o .slots) → Built s o number after → number ≢ 0
-      → printed ≡ refusedText number → Shelved s f printed
-  build-done : (o after : Order) → slotsOf s ≤ length (o .slots) → Built s o 0 after → Listed s after f printed → Shelved s f printed
+  arrange-refused : (o after : Order) (answer : Arranging) → slotsOf s ≤ length (o .slots) → ArrangedAs s o answer after → answer .code ≢ 0
+      → printed ≡ refusedText (answer .code) → Shelved s f printed
+  arrange-done : (o after : Order) (answer : Arranging) → slotsOf s ≤ length (o .slots) → ArrangedAs s o answer after → answer .code ≡ 0
+      → Listed s after f printed → Shelved s f printed
 
 -- What is printed for a text; its faces are closed, and its points all live.
 pub data Answer (text printed : List ℕ) : Type 0 where

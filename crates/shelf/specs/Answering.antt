@@ -8,11 +8,12 @@ use native.Mathlib.Nat.{mul-le-mul}
 use native.Mathlib.Omega.{arith}
 use lib.ListN.{length, take, replicate, length-replicate, getD-replicate}
 use lib.IntN.{ℤ}
+use Rattle.terms.specs.declared.Arranging.{Arranging}
 use Rattle.terms.specs.declared.Listing.{Listing}
 use Rattle.terms.specs.Lent.{Stock, Order, Faces, stock, faces}
 use Rattle.terms.specs.Live.{isSet, liveCount}
 use Rattle.terms.specs.Points.{slotsOf}
-use Rattle.terms.specs.BuildCall.{Built}
+use Rattle.terms.specs.ArrangeCall.{ArrangedAs}
 use Rattle.terms.specs.ListCall.{listAnswer, listAfter}
 use Rattle.theory.specs.Flags.{not-true, not-false}
 use Rattle.theory.specs.Counting.{at-every}
@@ -20,7 +21,7 @@ use Rattle.theory.specs.LiveNumbers.{all-live}
 use Rattle.text.specs.Answer.{refusedText}
 use Rattle.text.specs.TextReading.{ReadsText}
 use Rattle.text.specs.Printing.{Printed}
-use Rattle.shelf.specs.Answer.{doneText, Listed, list-refused, list-done, Shelved, build-refused, build-done, Answer, not-the-text, the-text, Writes}
+use Rattle.shelf.specs.Answer.{doneText, Listed, list-refused, list-done, Shelved, arrange-refused, arrange-done, Answer, not-the-text, the-text, Writes}
 
 module _ {s : Stock} {o : Order} {f : Faces} (list : List ℕ) (room : slotsOf s ≤ length list) {answer : Listing}
     (answers : answer ≡ listAnswer s o f list) {out : List ℕ} {r : ℕ} where
@@ -33,15 +34,15 @@ module _ {s : Stock} {o : Order} {f : Faces} (list : List ℕ) (room : slotsOf s
       → Writes (Listed s o f) out r
   listing-done a z p = record { inside = p .inside; kind = list-done list room (rw (← answers) z) (rw (← answers, ← a) (p .bytes)) }
 
-module _ {s : Stock} {f : Faces} {o after : Order} {number : ℕ} (room : slotsOf s ≤ length (o .slots)) (built : Built s o number after)
+module _ {s : Stock} {f : Faces} {o after : Order} {answer : Arranging} (room : slotsOf s ≤ length (o .slots)) (arranged : ArrangedAs s o answer after)
     {out : List ℕ} {r : ℕ} where
-  -- The build call refused.
-  pub building-refused : number ≢ 0 → Printed out r (refusedText number) → Writes (Shelved s f) out r
-  building-refused m p = record { inside = p .inside; kind = build-refused o after number room built m (p .bytes) }
+  -- The arrange call refused.
+  pub arranging-refused : answer .code ≢ 0 → Printed out r (refusedText (answer .code)) → Writes (Shelved s f) out r
+  arranging-refused m p = record { inside = p .inside; kind = arrange-refused o after answer room arranged m (p .bytes) }
 
-  -- The build call is done.
-  pub building-done : number ≡ 0 → Writes (Listed s after f) out r → Writes (Shelved s f) out r
-  building-done z w = record { inside = w .inside; kind = build-done o after room (rw z at built) (w .kind) }
+  -- The arrange call is done.
+  pub arranging-done : answer .code ≡ 0 → Writes (Listed s after f) out r → Writes (Shelved s f) out r
+  arranging-done z w = record { inside = w .inside; kind = arrange-done o after answer room arranged z (w .kind) }
 
 -- Of as many of one item the first few are so few of it.
 take-replicate : {A : Type 0} (h n : ℕ) (x : A) → h ≤ n → take h (replicate n x) ≡ replicate h x

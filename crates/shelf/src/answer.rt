@@ -1,11 +1,11 @@
-// What the program answers to a text: it reads the text, builds the shelf, lists it against the region, and writes the answer.
+// What the program answers to a text: it reads the text, arranges the shelf, lists it against the region, and writes the answer.
 ghost use mathlib.Core.Path.{_≡_};
 ghost use Prim.Native.Nat.{_≤_};
 ghost use lib.ListN.{length};
 ghost use Rattle.terms.specs.Lent.{stock, orderOf, faces};
 ghost use Rattle.terms.specs.Live.{liveCount};
 ghost use Rattle.shelf.specs.Answer.{Listed, Shelved, Answer, Writes};
-use hornherder::build::hornherder_build;
+use hornherder::arranging::hornherder_arrange;
 use hornherder::list::hornherder_list;
 use text::input::read;
 use text::output::write_answer;
@@ -30,7 +30,7 @@ pub fn answer(input: &[u8], out: &mut [u8]) -> usize
     let h = said.h;
     let coordinates = k * n;
     let components = k * h;
-    build_shelf(
+    arrange_shelf(
         k,
         n,
         h,
@@ -43,8 +43,8 @@ pub fn answer(input: &[u8], out: &mut [u8]) -> usize
     )
 }
 
-// Builds the shelf of the points and lists it, or writes the refusal of the build call.
-fn build_shelf(
+// Arranges the shelf of the points and lists it, or writes the refusal of the arrange call.
+fn arrange_shelf(
     k: usize,
     n: usize,
     h: usize,
@@ -61,9 +61,9 @@ fn build_shelf(
     ensures { λ r. ⌜ Writes (Shelved (stock k n (now (points .entry)) (now (live .entry))) (faces h (now (normals .entry)) (now (offsets .entry)) (now (marks .entry)))) (now (out .exit)) r ⌝ }
 {
     let mut order = [0u32; 512];
-    let number = hornherder_build(k, n, points, live, &mut order);
-    if number != 0 {
-        return write_refused(number, out);
+    let arranging = hornherder_arrange(k, n, points, live, &mut order);
+    if arranging.code != 0 {
+        return write_refused(arranging.code, out);
     }
     list_shelf(k, n, h, points, live, &order, normals, offsets, marks, out)
 }

@@ -14,6 +14,7 @@ use Rattle.whole.specs.IndexedSum.{sumTo}
 use Rattle.whole.specs.IndexedTotal.{totalTo}
 use Rattle.terms.specs.declared.Reading.{Reading}
 use Rattle.terms.specs.declared.Making.{Making}
+use Rattle.terms.specs.declared.Arranging.{Arranging}
 use Rattle.terms.specs.declared.Listing.{Listing}
 use Rattle.terms.specs.declared.Screening.{Screening}
 use Rattle.terms.specs.declared.Placing.{Placing}
@@ -37,8 +38,7 @@ use Rattle.terms.specs.Value.{inRange, coordinateOf}
 use Rattle.terms.specs.Reading.{colour, grey, nothing, gives}
 use Rattle.terms.specs.PointCall.{pointCode, pointAnswer, pointAfter}
 use Rattle.terms.specs.Refusals.{firstOf}
-use Rattle.terms.specs.BuildCall.{Built, buildAnswer}
-use Rattle.terms.specs.CheckCall.{checkAnswer}
+use Rattle.terms.specs.ArrangeCall.{ArrangedAs, arrangeCode, arrangeAnswer}
 use Rattle.terms.specs.ListCall.{listCode, listAnswer, listAfter}
 use Rattle.terms.specs.EndToEnd.{endToEnd}
 use Rattle.terms.specs.ListRegionsCall.{listRegionsCode, listsAfter, countsAfter}
@@ -89,8 +89,7 @@ spans k b = map (λ d. b .low d ∷ b .high d ∷ []) (rising 0 k)
 
 -- What a row gives, and what it must give.
 pub data Row : Type 0 where
-  builds : Shelf → (answer : ℕ) (after : List ℕ) → Row
-  checks : Shelf → (answer : ℕ) → Row
+  arranges : Shelf → Arranging → (after : List ℕ) → Row
   lists : Shelf → Faces → (list : List ℕ) (answer : Listing) (after : List ℕ) → Row
   listsRegions : Shelf → Regions → (listBuffer countsBuffer : List ℕ) (answer : ℕ) (afterLists afterCounts : List ℕ) → Row
   screens : Shelf → Faces → Screening → Row
@@ -112,8 +111,7 @@ pub data Row : Type 0 where
 
 -- What it is for a row to hold: the call's definition gives what the row says.
 abbrev pub Holds : Row → Type 0
-Holds (builds s answer after) = Built (s .lent) (s .arranged) answer (orderOf after)
-Holds (checks s answer) = checkAnswer (s .lent) (s .arranged) ≡ answer
+Holds (arranges s answer after) = ArrangedAs (s .lent) (s .arranged) answer (orderOf after)
 Holds (lists s f list answer after) =
     (listAnswer (s .lent) (s .arranged) f list ≡ answer) × (listAfter (s .lent) (s .arranged) f list ≡ after)
 Holds (listsRegions s g listBuffer countsBuffer answer afterLists afterCounts) =
@@ -145,14 +143,24 @@ pub data All : List Row → Type 0 where
   nothing-left : All []
   _by_also_ : (r : Row) {rs : List Row} → Holds r → All rs → All (r ∷ rs)
 
--- A build that is done, from what computes of it.
-built : {s : Stock} {o after : Order} → buildAnswer s o ≡ 0 → length (after .slots) ≡ length (o .slots)
-    → isShelf s after ≡ true → drop (slotsOf s) (after .slots) ≡ drop (slotsOf s) (o .slots) → Built s o 0 after
-built e l t d = record { answered = sym e; size = l; arranged = λ z. t; later = λ z. d; refused = λ z. absurd (z refl) }
+-- The answer of an arrange call that found the tree, of one that made it, and of one that is refused.
+abbrev already : Arranging
+already = record { code = 0; already = 1 }
 
--- A build that is refused, from what computes of it.
-unbuilt : {s : Stock} {o : Order} {c : ℕ} → buildAnswer s o ≡ suc c → Built s o (suc c) o
-unbuilt e = record { answered = sym e; size = refl; arranged = λ z. absurd (omega arith); later = λ z. refl; refused = λ z. refl }
+abbrev anew : Arranging
+anew = record { code = 0; already = 0 }
+
+abbrev unarranged : ℕ → Arranging
+unarranged c = record { code = c; already = 0 }
+
+-- An arrange call that is done, from what computes of it.
+arranged : {s : Stock} {o after : Order} {b : ℕ} → arrangeAnswer s o ≡ record { code = 0; already = b } → length (after .slots) ≡ length (o .slots)
+    → isShelf s after ≡ true → drop (slotsOf s) (after .slots) ≡ drop (slotsOf s) (o .slots) → ArrangedAs s o (record { code = 0; already = b }) after
+arranged e l t d = record { answered = sym e; size = l; arranged = λ z. t; later = λ z. d; refused = λ z. absurd (z refl) }
+
+-- An arrange call that is refused, from what computes of it.
+refusing : {s : Stock} {o : Order} {c : ℕ} → arrangeAnswer s o ≡ unarranged (suc c) → ArrangedAs s o (unarranged (suc c)) o
+refusing e = record { answered = sym e; size = refl; arranged = λ z. absurd (omega arith); later = λ z. refl; refused = λ z. refl }
 
 -- The answer of a list call that is done.
 abbrev counts : ℕ → ℕ → ℕ → Listing
@@ -242,12 +250,12 @@ abbrev noFaces : Faces
 noFaces = closed 0 [] []
 
 -- Example 1: A's order is as printed.
-abbrev pub example-1-build : Row
-example-1-build = builds anyA 0 (1 ∷ 5 ∷ 0 ∷ 2 ∷ 3 ∷ 4 ∷ [])
+abbrev pub example-1-arrange : Row
+example-1-arrange = arranges anyA anew (1 ∷ 5 ∷ 0 ∷ 2 ∷ 3 ∷ 4 ∷ [])
 
--- Example 1: and it passes.
-abbrev pub example-1-check : Row
-example-1-check = checks shelfA 0
+-- Example 1: and it is found so.
+abbrev pub example-1-already : Row
+example-1-already = arranges shelfA already (shelfA .arranged .slots)
 
 -- Example 2: A with the two faces.
 abbrev pub example-2-list : Row
@@ -302,8 +310,8 @@ abbrev fromFive : Faces
 fromFive = closed 1 (pos 1 ∷ []) (pos 5 ∷ [])
 
 -- Example 7: the order is 0 1.
-abbrev pub example-7-build : Row
-example-7-build = builds anyPair 0 (0 ∷ 1 ∷ [])
+abbrev pub example-7-arrange : Row
+example-7-arrange = arranges anyPair anew (0 ∷ 1 ∷ [])
 
 -- Example 7: two visits.
 abbrev pub example-7-list : Row
@@ -326,16 +334,16 @@ abbrev tiesSwapped : Shelf
 tiesSwapped = ordered anyTies (1 ∷ 0 ∷ 2 ∷ [])
 
 -- Example 8: the order is 0 1 2.
-abbrev pub example-8-build : Row
-example-8-build = builds anyTies 0 (0 ∷ 1 ∷ 2 ∷ [])
+abbrev pub example-8-arrange : Row
+example-8-arrange = arranges anyTies anew (0 ∷ 1 ∷ 2 ∷ [])
 
--- Example 8: it passes.
-abbrev pub example-8-check : Row
-example-8-check = checks ties 0
+-- Example 8: it is found so.
+abbrev pub example-8-already : Row
+example-8-already = arranges ties already (ties .arranged .slots)
 
--- Example 8: order 1 0 2 gives 9.
+-- Example 8: order 1 0 2 is not it.
 abbrev pub example-8-swapped : Row
-example-8-swapped = checks tiesSwapped 9
+example-8-swapped = arranges tiesSwapped anew (0 ∷ 1 ∷ 2 ∷ [])
 
 -- The one point (4, 2).
 abbrev one : Shelf
@@ -383,15 +391,15 @@ test-below-the-face = tests 2 (pos 0 ∷ pos 5 ∷ []) diagonal (measures 0 0 (m
 abbrev anyALonger : Shelf
 anyALonger = ordered shelfA (9 ∷ 9 ∷ 9 ∷ 9 ∷ 9 ∷ 9 ∷ 70 ∷ 71 ∷ [])
 
--- Places from n on stay.
-abbrev pub build-keeps-later-places : Row
-build-keeps-later-places = builds anyALonger 0 (1 ∷ 5 ∷ 0 ∷ 2 ∷ 3 ∷ 4 ∷ 70 ∷ 71 ∷ [])
+-- Places from v on stay.
+abbrev pub arrange-keeps-later-places : Row
+arrange-keeps-later-places = arranges anyALonger anew (1 ∷ 5 ∷ 0 ∷ 2 ∷ 3 ∷ 4 ∷ 70 ∷ 71 ∷ [])
 
 -- Shelf A in a longer order.
 abbrev shelfALonger : Shelf
 shelfALonger = ordered shelfA (1 ∷ 5 ∷ 0 ∷ 2 ∷ 3 ∷ 4 ∷ 1 ∷ 0 ∷ [])
 
--- The list buffer's places from n on stay.
+-- The list buffer's places from v on stay.
 abbrev pub list-keeps-later-places : Row
 list-keeps-later-places = lists shelfALonger twoFaces (8 ∷ 8 ∷ 8 ∷ 8 ∷ 8 ∷ 8 ∷ 80 ∷ 81 ∷ []) (counts 2 4 5) (2 ∷ 4 ∷ 3 ∷ 0 ∷ 5 ∷ 1 ∷ 80 ∷ 81 ∷ [])
 
@@ -400,8 +408,8 @@ abbrev anyNegatives : Shelf
 anyNegatives = shelf 1 3 (minus 5 ∷ pos 3 ∷ minus 4 ∷ []) (0 ∷ 0 ∷ 0 ∷ [])
 
 -- Negative coordinates come first.
-abbrev pub build-by-value-not-size : Row
-build-by-value-not-size = builds anyNegatives 0 (0 ∷ 2 ∷ 1 ∷ [])
+abbrev pub arrange-by-value-not-size : Row
+arrange-by-value-not-size = arranges anyNegatives anew (0 ∷ 2 ∷ 1 ∷ [])
 
 -- Nine points of -1, 0, 1 with ties on every dimension: four levels, k 3.
 abbrev anyTiesInThree : Shelf
@@ -412,16 +420,16 @@ abbrev tiesInThree : Shelf
 tiesInThree = ordered anyTiesInThree (4 ∷ 2 ∷ 0 ∷ 7 ∷ 1 ∷ 5 ∷ 3 ∷ 6 ∷ 8 ∷ [])
 
 -- Ties on every dimension go by number.
-abbrev pub build-ties-in-three : Row
-build-ties-in-three = builds anyTiesInThree 0 (4 ∷ 2 ∷ 0 ∷ 7 ∷ 1 ∷ 5 ∷ 3 ∷ 6 ∷ 8 ∷ [])
+abbrev pub arrange-ties-in-three : Row
+arrange-ties-in-three = arranges anyTiesInThree anew (4 ∷ 2 ∷ 0 ∷ 7 ∷ 1 ∷ 5 ∷ 3 ∷ 6 ∷ 8 ∷ [])
 
 -- Eight equal points: four levels, k 3.
 abbrev anyEqual : Shelf
 anyEqual = shelf 3 8 (pos 4 ∷ minus 4 ∷ pos 4 ∷ pos 4 ∷ minus 4 ∷ pos 4 ∷ pos 4 ∷ minus 4 ∷ pos 4 ∷ pos 4 ∷ minus 4 ∷ pos 4 ∷ pos 4 ∷ minus 4 ∷ pos 4 ∷ pos 4 ∷ minus 4 ∷ pos 4 ∷ pos 4 ∷ minus 4 ∷ pos 4 ∷ pos 4 ∷ minus 4 ∷ pos 4 ∷ []) (3 ∷ 3 ∷ 3 ∷ 3 ∷ 3 ∷ 3 ∷ 3 ∷ 3 ∷ [])
 
 -- Equal points stand in the order of their numbers.
-abbrev pub build-equal-points : Row
-build-equal-points = builds anyEqual 0 (0 ∷ 1 ∷ 2 ∷ 3 ∷ 4 ∷ 5 ∷ 6 ∷ 7 ∷ [])
+abbrev pub arrange-equal-points : Row
+arrange-equal-points = arranges anyEqual anew (0 ∷ 1 ∷ 2 ∷ 3 ∷ 4 ∷ 5 ∷ 6 ∷ 7 ∷ [])
 
 -- Two slanted faces with negative components, and a zero face with m 0.
 abbrev slantedInThree : Faces
@@ -444,8 +452,8 @@ abbrev three : Shelf
 three = ordered anyThree (0 ∷ 6 ∷ 3 ∷ 9 ∷ 2 ∷ 7 ∷ 4 ∷ 1 ∷ 10 ∷ 5 ∷ 8 ∷ [])
 
 -- A spread shelf in three dimensions.
-abbrev pub build-three : Row
-build-three = builds anyThree 0 (0 ∷ 6 ∷ 3 ∷ 9 ∷ 2 ∷ 7 ∷ 4 ∷ 1 ∷ 10 ∷ 5 ∷ 8 ∷ [])
+abbrev pub arrange-three : Row
+arrange-three = arranges anyThree anew (0 ∷ 6 ∷ 3 ∷ 9 ∷ 2 ∷ 7 ∷ 4 ∷ 1 ∷ 10 ∷ 5 ∷ 8 ∷ [])
 
 -- A slanted face and a square one, both with negative components.
 abbrev wedgeInThree : Faces
@@ -468,8 +476,8 @@ abbrev four : Shelf
 four = ordered anyFour (9 ∷ 0 ∷ 6 ∷ 12 ∷ 14 ∷ 4 ∷ 1 ∷ 2 ∷ 7 ∷ 8 ∷ 3 ∷ 10 ∷ 11 ∷ 5 ∷ 13 ∷ [])
 
 -- A shelf in four dimensions.
-abbrev pub build-four : Row
-build-four = builds anyFour 0 (9 ∷ 0 ∷ 6 ∷ 12 ∷ 14 ∷ 4 ∷ 1 ∷ 2 ∷ 7 ∷ 8 ∷ 3 ∷ 10 ∷ 11 ∷ 5 ∷ 13 ∷ [])
+abbrev pub arrange-four : Row
+arrange-four = arranges anyFour anew (9 ∷ 0 ∷ 6 ∷ 12 ∷ 14 ∷ 4 ∷ 1 ∷ 2 ∷ 7 ∷ 8 ∷ 3 ∷ 10 ∷ 11 ∷ 5 ∷ 13 ∷ [])
 
 -- Two slanted faces in four dimensions.
 abbrev slantedInFour : Faces
@@ -487,9 +495,9 @@ open-four = opens four slantedInFour (false ∷ false ∷ false ∷ true ∷ fal
 abbrev fourSwapped : Shelf
 fourSwapped = ordered anyFour (0 ∷ 9 ∷ 6 ∷ 12 ∷ 14 ∷ 4 ∷ 1 ∷ 2 ∷ 7 ∷ 8 ∷ 3 ∷ 10 ∷ 11 ∷ 5 ∷ 13 ∷ [])
 
--- Two slots swapped give 9.
-abbrev pub check-swapped : Row
-check-swapped = checks fourSwapped 9
+-- Two slots swapped are not the tree.
+abbrev pub arrange-swapped : Row
+arrange-swapped = arranges fourSwapped anew (four .arranged .slots)
 
 -- The two extreme points in four dimensions.
 abbrev anyExtremes : Shelf
@@ -500,8 +508,8 @@ abbrev extremes : Shelf
 extremes = ordered anyExtremes (0 ∷ 1 ∷ [])
 
 -- The extremes of a coordinate pass.
-abbrev pub build-extremes : Row
-build-extremes = builds anyExtremes 0 (0 ∷ 1 ∷ [])
+abbrev pub arrange-extremes : Row
+arrange-extremes = arranges anyExtremes anew (0 ∷ 1 ∷ [])
 
 -- The extremes of component and offset; the last face runs through the least point.
 abbrev extremeFaces : Faces
@@ -554,52 +562,52 @@ abbrev noDimension : Shelf
 noDimension = shelf 0 2 [] (0 ∷ 1 ∷ [])
 
 -- 1 before 2.
-abbrev pub build-refuses-k-first : Row
-build-refuses-k-first = builds fiveDimensions 1 []
+abbrev pub arrange-refuses-k-first : Row
+arrange-refuses-k-first = arranges fiveDimensions (unarranged 1) []
 
 -- k 0 is 1.
-abbrev pub check-refuses-no-dimension : Row
-check-refuses-no-dimension = checks noDimension 1
+abbrev pub arrange-refuses-no-dimension : Row
+arrange-refuses-no-dimension = arranges noDimension (unarranged 1) (noDimension .arranged .slots)
 
 -- n 65,536, and points of another length.
 abbrev tooMany : Shelf
 tooMany = shelf 2 65536 (pos 1 ∷ []) []
 
 -- 2 before 3.
-abbrev pub build-refuses-n-second : Row
-build-refuses-n-second = builds tooMany 2 []
+abbrev pub arrange-refuses-n-second : Row
+arrange-refuses-n-second = arranges tooMany (unarranged 2) []
 
 -- Eleven coordinates for six points, and a short order.
 abbrev wrongPoints : Shelf
 wrongPoints = shelf 2 6 (pos 1 ∷ pos 5 ∷ pos 4 ∷ pos 2 ∷ pos 4 ∷ pos 8 ∷ pos 7 ∷ pos 1 ∷ pos 6 ∷ pos 6 ∷ pos 2 ∷ []) (5 ∷ [])
 
 -- 3 before 4.
-abbrev pub build-refuses-points-third : Row
-build-refuses-points-third = builds wrongPoints 3 (5 ∷ [])
+abbrev pub arrange-refuses-points-third : Row
+arrange-refuses-points-third = arranges wrongPoints (unarranged 3) (5 ∷ [])
 
 -- A short order, and a coordinate out of range.
 abbrev shortOrder : Shelf
 shortOrder = shelf 1 2 (pos 0 ∷ pos 40000 ∷ []) (5 ∷ [])
 
 -- 4 before 5.
-abbrev pub build-refuses-room-fourth : Row
-build-refuses-room-fourth = builds shortOrder 4 (5 ∷ [])
+abbrev pub arrange-refuses-room-fourth : Row
+arrange-refuses-room-fourth = arranges shortOrder (unarranged 4) (5 ∷ [])
 
 -- Coordinate 32,768, and an order that is no tree.
 abbrev coordinateTooHigh : Shelf
 coordinateTooHigh = shelf 1 2 (pos 0 ∷ pos 32768 ∷ []) (0 ∷ 0 ∷ [])
 
--- 5 before 9.
-abbrev pub check-refuses-coordinate-fifth : Row
-check-refuses-coordinate-fifth = checks coordinateTooHigh 5
+-- 5 for a coordinate too high.
+abbrev pub arrange-refuses-coordinate-fifth : Row
+arrange-refuses-coordinate-fifth = arranges coordinateTooHigh (unarranged 5) (coordinateTooHigh .arranged .slots)
 
 -- Coordinate -32,769.
 abbrev coordinateTooLow : Shelf
 coordinateTooLow = shelf 1 2 (minus 32769 ∷ pos 0 ∷ []) (0 ∷ 1 ∷ [])
 
 -- 5 for a coordinate too low; the order stays.
-abbrev pub build-refuses-low-coordinate : Row
-build-refuses-low-coordinate = builds coordinateTooLow 5 (0 ∷ 1 ∷ [])
+abbrev pub arrange-refuses-low-coordinate : Row
+arrange-refuses-low-coordinate = arranges coordinateTooLow (unarranged 5) (0 ∷ 1 ∷ [])
 
 -- h 33, and normals of another length.
 abbrev tooManyFaces : Faces
@@ -681,13 +689,13 @@ numberTwice = ordered pair (0 ∷ 0 ∷ [])
 abbrev numberOfN : Shelf
 numberOfN = ordered pair (0 ∷ 2 ∷ [])
 
--- A number twice is 9.
-abbrev pub check-refuses-number-twice : Row
-check-refuses-number-twice = checks numberTwice 9
+-- A number twice is not the tree,
+abbrev pub arrange-number-twice : Row
+arrange-number-twice = arranges numberTwice anew (0 ∷ 1 ∷ [])
 
--- A number of n is 9.
-abbrev pub check-refuses-number-of-n : Row
-check-refuses-number-of-n = checks numberOfN 9
+-- nor a number of n.
+abbrev pub arrange-number-of-n : Row
+arrange-number-of-n = arranges numberOfN anew (0 ∷ 1 ∷ [])
 
 -- 1 before 3.
 abbrev pub test-refuses-dimension : Row
@@ -730,8 +738,8 @@ abbrev fullShelf : Shelf
 fullShelf = shelf 1 65535 [] []
 
 -- 65,535 is not too many.
-abbrev pub build-takes-full-shelf : Row
-build-takes-full-shelf = builds fullShelf 3 []
+abbrev pub arrange-takes-full-shelf : Row
+arrange-takes-full-shelf = arranges fullShelf (unarranged 3) []
 
 -- h 32 on a line, all zero faces.
 abbrev mostFaces : Faces
@@ -1232,7 +1240,7 @@ explain-on-an-open-face = explains shelfA diagonalOpen 0 (outside-because 4 2 0 
 abbrev pub explain-on-a-closed-face : Row
 explain-on-a-closed-face = explains shelfA diagonal 0 (inside-because 2 2)
 
--- Places from n on are not read.
+-- Places from v on are not read.
 abbrev pub explain-longer-order : Row
 explain-longer-order = explains shelfALonger twoFaces 1 (outside-because 3 0 0 (minus 1))
 
@@ -1472,32 +1480,42 @@ abbrev anyWithdrawnA : Shelf
 anyWithdrawnA = ordered withdrawnA (9 ∷ 9 ∷ 9 ∷ 9 ∷ 9 ∷ 77 ∷ [])
 
 -- The tree of the five live points; the place from v on stays.
-abbrev pub dead-build : Row
-dead-build = builds anyWithdrawnA 0 (5 ∷ 0 ∷ 1 ∷ 3 ∷ 4 ∷ 77 ∷ [])
+abbrev pub dead-arrange : Row
+dead-arrange = arranges anyWithdrawnA anew (5 ∷ 0 ∷ 1 ∷ 3 ∷ 4 ∷ 77 ∷ [])
 
--- It passes, whatever stands in the place from v on.
-abbrev pub dead-check : Row
-dead-check = checks withdrawnA 0
+-- It is found so, whatever stands in the place from v on.
+abbrev pub dead-already : Row
+dead-already = arranges withdrawnA already (withdrawnA .arranged .slots)
 
 -- The order of before holds the withdrawn number in its first v places.
-abbrev pub dead-check-old-order : Row
-dead-check-old-order = checks (ordered withdrawnA (1 ∷ 5 ∷ 0 ∷ 2 ∷ 3 ∷ 4 ∷ [])) 9
+abbrev pub dead-old-order : Row
+dead-old-order = arranges (ordered withdrawnA (1 ∷ 5 ∷ 0 ∷ 2 ∷ 3 ∷ 4 ∷ [])) anew (5 ∷ 0 ∷ 1 ∷ 3 ∷ 4 ∷ 4 ∷ [])
 
 -- An order of live numbers that is not their tree.
-abbrev pub dead-check-swapped : Row
-dead-check-swapped = checks (ordered withdrawnA (0 ∷ 5 ∷ 1 ∷ 3 ∷ 4 ∷ 77 ∷ [])) 9
+abbrev pub dead-swapped : Row
+dead-swapped = arranges (ordered withdrawnA (0 ∷ 5 ∷ 1 ∷ 3 ∷ 4 ∷ 77 ∷ [])) anew (5 ∷ 0 ∷ 1 ∷ 3 ∷ 4 ∷ 77 ∷ [])
 
 -- A number of n in the first v places.
-abbrev pub dead-check-number-of-n : Row
-dead-check-number-of-n = checks (ordered withdrawnA (5 ∷ 0 ∷ 1 ∷ 3 ∷ 6 ∷ 4 ∷ [])) 9
+abbrev pub dead-number-of-n : Row
+dead-number-of-n = arranges (ordered withdrawnA (5 ∷ 0 ∷ 1 ∷ 3 ∷ 6 ∷ 4 ∷ [])) anew (5 ∷ 0 ∷ 1 ∷ 3 ∷ 4 ∷ 4 ∷ [])
 
 -- A number taken since stands in no place: with all live the first six places are not the tree.
-abbrev pub taken-check-old-order : Row
-taken-check-old-order = checks (ordered shelfA (5 ∷ 0 ∷ 1 ∷ 3 ∷ 4 ∷ 2 ∷ [])) 9
+abbrev pub taken-old-order : Row
+taken-old-order = arranges (ordered shelfA (5 ∷ 0 ∷ 1 ∷ 3 ∷ 4 ∷ 77 ∷ [])) anew (1 ∷ 5 ∷ 0 ∷ 2 ∷ 3 ∷ 4 ∷ [])
 
 -- The two faces: number 4 is inside and the other four outside, backwards from place v - 1; the place from v on stays.
 abbrev pub dead-list : Row
 dead-list = lists withdrawnA twoFaces (8 ∷ 8 ∷ 8 ∷ 8 ∷ 8 ∷ 80 ∷ []) (counts 1 4 5) (4 ∷ 3 ∷ 1 ∷ 0 ∷ 5 ∷ 80 ∷ [])
+
+-- An order that holds the withdrawn number is 9, and so it is for the screen and for several regions.
+abbrev pub dead-list-old-order : Row
+dead-list-old-order = lists (ordered withdrawnA (1 ∷ 5 ∷ 0 ∷ 2 ∷ 3 ∷ 4 ∷ [])) twoFaces (8 ∷ 8 ∷ 8 ∷ 8 ∷ 8 ∷ []) (refusal 9) (8 ∷ 8 ∷ 8 ∷ 8 ∷ 8 ∷ [])
+
+abbrev pub dead-screen-old-order : Row
+dead-screen-old-order = screens (ordered withdrawnA (1 ∷ 5 ∷ 0 ∷ 2 ∷ 3 ∷ 4 ∷ [])) twoFaces (unscreened 9)
+
+abbrev pub dead-regions-old-order : Row
+dead-regions-old-order = refusesRegions (ordered withdrawnA (1 ∷ 5 ∷ 0 ∷ 2 ∷ 3 ∷ 4 ∷ [])) (closedRegions 1 (0 ∷ []) [] []) (replicate 5 9) (replicate 3 8) 9
 
 -- The root box is that of the live points, y to 6 where the withdrawn one had 8.
 abbrev pub dead-box : Row
@@ -1539,25 +1557,25 @@ dead-regions-short-lists = refusesRegions withdrawnA noneThenTwo (replicate 9 9)
 abbrev pairWithOne : Shelf
 pairWithOne = shelfWith 1 2 (pos 0 ∷ pos 10 ∷ []) (1 ∷ 0 ∷ []) (0 ∷ 1 ∷ [])
 
--- The withdrawn number stands at place v, which is not read: the order of before passes.
+-- The withdrawn number stands at place v, which is not read: the order of before is the tree already.
 abbrev pub withdrawn-at-place-v : Row
-withdrawn-at-place-v = checks pairWithOne 0
+withdrawn-at-place-v = arranges pairWithOne already (pairWithOne .arranged .slots)
 
 -- And it is listed.
 abbrev pub withdrawn-at-place-v-list : Row
 withdrawn-at-place-v-list = lists pairWithOne fromFive (7 ∷ []) (counts 0 1 0) (0 ∷ [])
 
--- With number 0 withdrawn it stands in the first place: 9.
+-- With number 0 withdrawn it stands in the first place, and is written over.
 abbrev pub withdrawn-in-the-first-place : Row
-withdrawn-in-the-first-place = checks (shelfWith 1 2 (pos 0 ∷ pos 10 ∷ []) (0 ∷ 1 ∷ []) (0 ∷ 1 ∷ [])) 9
+withdrawn-in-the-first-place = arranges (shelfWith 1 2 (pos 0 ∷ pos 10 ∷ []) (0 ∷ 1 ∷ []) (0 ∷ 1 ∷ [])) anew (1 ∷ 1 ∷ [])
 
 -- 4 asks for v places: one is enough for one live number.
-abbrev pub dead-build-room : Row
-dead-build-room = builds (shelfWith 1 2 (pos 0 ∷ pos 10 ∷ []) (0 ∷ 1 ∷ []) (7 ∷ [])) 0 (1 ∷ [])
+abbrev pub dead-arrange-room : Row
+dead-arrange-room = arranges (shelfWith 1 2 (pos 0 ∷ pos 10 ∷ []) (0 ∷ 1 ∷ []) (7 ∷ [])) anew (1 ∷ [])
 
 -- None is too few.
-abbrev pub dead-build-short-order : Row
-dead-build-short-order = builds (shelfWith 1 2 (pos 0 ∷ pos 10 ∷ []) (0 ∷ 1 ∷ []) []) 4 []
+abbrev pub dead-arrange-short-order : Row
+dead-arrange-short-order = arranges (shelfWith 1 2 (pos 0 ∷ pos 10 ∷ []) (0 ∷ 1 ∷ []) []) (unarranged 4) []
 
 -- 4 for a list of no place.
 abbrev pub dead-list-short-list : Row
@@ -1568,8 +1586,8 @@ abbrev allDead : Shelf
 allDead = shelfWith 1 2 (pos 40000 ∷ minus 40000 ∷ []) (0 ∷ 0 ∷ []) []
 
 -- A shelf on which all are dead has no slot.
-abbrev pub all-dead-build : Row
-all-dead-build = builds allDead 0 []
+abbrev pub all-dead-arrange : Row
+all-dead-arrange = arranges allDead already []
 
 -- Its lists are empty.
 abbrev pub all-dead-list : Row
@@ -1577,35 +1595,31 @@ all-dead-list = lists allDead fromFive (7 ∷ []) (counts 0 0 0) (7 ∷ [])
 
 -- 5 for a live number's coordinate, beside a dead one's.
 abbrev pub live-coordinate-refused : Row
-live-coordinate-refused = checks (shelfWith 1 2 (pos 40000 ∷ minus 40000 ∷ []) (0 ∷ 1 ∷ []) (1 ∷ [])) 5
+live-coordinate-refused = arranges (shelfWith 1 2 (pos 40000 ∷ minus 40000 ∷ []) (0 ∷ 1 ∷ []) (1 ∷ [])) (unarranged 5) ((shelfWith 1 2 (pos 40000 ∷ minus 40000 ∷ []) (0 ∷ 1 ∷ []) (1 ∷ [])) .arranged .slots)
 
--- Points 0 and 10, numbers 0 and 2, and a dead number between them.
-abbrev pairAroundADead : Shelf
-pairAroundADead = shelfWith 1 3 (pos 0 ∷ pos 99999 ∷ pos 10 ∷ []) (1 ∷ 0 ∷ 1 ∷ []) (0 ∷ 2 ∷ [])
+-- Points 0 and 10, numbers 0 and 3, and two dead numbers between them.
+abbrev pairAroundTwoDead : Shelf
+pairAroundTwoDead = shelfWith 1 4 (pos 0 ∷ pos 99999 ∷ minus 99999 ∷ pos 10 ∷ []) (1 ∷ 0 ∷ 0 ∷ 1 ∷ []) (0 ∷ 3 ∷ [])
 
--- The visits are S(v, k), v below n.
+-- The visits are S(v, k): 2, where S(n, k) would be 3.
 abbrev pub dead-bound : Row
-dead-bound = attains pairAroundADead fromFive
+dead-bound = attains pairAroundTwoDead fromFive
 
 -- Live bytes one too few, with points one too few and no room.
 abbrev fewBytesAndPoints : Shelf
 fewBytesAndPoints = shelfWith 1 2 (pos 0 ∷ []) (1 ∷ []) []
 
 -- 3 before 15.
-abbrev pub build-refuses-points-before-bytes : Row
-build-refuses-points-before-bytes = builds fewBytesAndPoints 3 []
+abbrev pub arrange-refuses-points-before-bytes : Row
+arrange-refuses-points-before-bytes = arranges fewBytesAndPoints (unarranged 3) []
 
 -- Live bytes one too few, a coordinate out of range, and no room.
 abbrev fewBytes : Shelf
 fewBytes = shelfWith 1 2 (pos 0 ∷ pos 40000 ∷ []) (1 ∷ []) []
 
 -- 15 before 4 and 5, in each call.
-abbrev pub build-refuses-few-bytes : Row
-build-refuses-few-bytes = builds fewBytes 15 []
-
--- The check.
-abbrev pub check-refuses-few-bytes : Row
-check-refuses-few-bytes = checks fewBytes 15
+abbrev pub arrange-refuses-few-bytes : Row
+arrange-refuses-few-bytes = arranges fewBytes (unarranged 15) []
 
 -- The list.
 abbrev pub list-refuses-few-bytes : Row
@@ -1624,12 +1638,12 @@ abbrev pub regions-refuse-few-bytes : Row
 regions-refuse-few-bytes = refusesRegions fewBytes (closedRegions 0 [] [] []) [] [] 15
 
 -- 15 for a byte too many.
-abbrev pub build-refuses-many-bytes : Row
-build-refuses-many-bytes = builds (shelfWith 1 2 (pos 0 ∷ pos 10 ∷ []) (1 ∷ 1 ∷ 1 ∷ []) (7 ∷ 7 ∷ [])) 15 (7 ∷ 7 ∷ [])
+abbrev pub arrange-refuses-many-bytes : Row
+arrange-refuses-many-bytes = arranges (shelfWith 1 2 (pos 0 ∷ pos 10 ∷ []) (1 ∷ 1 ∷ 1 ∷ []) (7 ∷ 7 ∷ [])) (unarranged 15) (7 ∷ 7 ∷ [])
 
 -- 15 for a byte of 2.
-abbrev pub build-refuses-byte-two : Row
-build-refuses-byte-two = builds (shelfWith 1 2 (pos 0 ∷ pos 10 ∷ []) (1 ∷ 2 ∷ []) (7 ∷ 7 ∷ [])) 15 (7 ∷ 7 ∷ [])
+abbrev pub arrange-refuses-byte-two : Row
+arrange-refuses-byte-two = arranges (shelfWith 1 2 (pos 0 ∷ pos 10 ∷ []) (1 ∷ 2 ∷ []) (7 ∷ 7 ∷ [])) (unarranged 15) (7 ∷ 7 ∷ [])
 
 -- The point is written at number 1, the lowest dead of three, and its byte is set. Number 2 stays dead, with its coordinates.
 abbrev pub take-writes : Row
@@ -1747,8 +1761,8 @@ change-withdrawn-twice = changes 2 (1 ∷ 1 ∷ []) (withdrawn 1 ∷ withdrawn 1
 -- The table.
 abbrev pub table : List Row
 table =
-    example-1-build
-    ∷ example-1-check
+    example-1-arrange
+    ∷ example-1-already
     ∷ example-2-list
     ∷ example-2-open
     ∷ example-2-box
@@ -1759,11 +1773,11 @@ table =
     ∷ example-5-reach-0
     ∷ example-5-reach-1
     ∷ example-6-list
-    ∷ example-7-build
+    ∷ example-7-arrange
     ∷ example-7-list
     ∷ example-7-bound
-    ∷ example-8-build
-    ∷ example-8-check
+    ∷ example-8-arrange
+    ∷ example-8-already
     ∷ example-8-swapped
     ∷ example-9-list
     ∷ example-9-test
@@ -1774,33 +1788,33 @@ table =
     ∷ sum-65535-4
     ∷ test-on-the-face
     ∷ test-below-the-face
-    ∷ build-keeps-later-places
+    ∷ arrange-keeps-later-places
     ∷ list-keeps-later-places
-    ∷ build-by-value-not-size
-    ∷ build-ties-in-three
-    ∷ build-equal-points
+    ∷ arrange-by-value-not-size
+    ∷ arrange-ties-in-three
+    ∷ arrange-equal-points
     ∷ list-ties-in-three
     ∷ open-ties-in-three
-    ∷ build-three
+    ∷ arrange-three
     ∷ list-three
     ∷ open-three
-    ∷ build-four
+    ∷ arrange-four
     ∷ list-four
     ∷ open-four
-    ∷ check-swapped
-    ∷ build-extremes
+    ∷ arrange-swapped
+    ∷ arrange-extremes
     ∷ list-extremes
     ∷ list-beyond-reach
     ∷ list-zero-face
     ∷ list-zero-face-above-none
     ∷ list-empty
-    ∷ build-refuses-k-first
-    ∷ check-refuses-no-dimension
-    ∷ build-refuses-n-second
-    ∷ build-refuses-points-third
-    ∷ build-refuses-room-fourth
-    ∷ check-refuses-coordinate-fifth
-    ∷ build-refuses-low-coordinate
+    ∷ arrange-refuses-k-first
+    ∷ arrange-refuses-no-dimension
+    ∷ arrange-refuses-n-second
+    ∷ arrange-refuses-points-third
+    ∷ arrange-refuses-room-fourth
+    ∷ arrange-refuses-coordinate-fifth
+    ∷ arrange-refuses-low-coordinate
     ∷ list-refuses-short-list
     ∷ list-refuses-coordinate
     ∷ list-refuses-h
@@ -1811,8 +1825,8 @@ table =
     ∷ list-refuses-offset
     ∷ list-refuses-low-offset
     ∷ list-refuses-order
-    ∷ check-refuses-number-twice
-    ∷ check-refuses-number-of-n
+    ∷ arrange-number-twice
+    ∷ arrange-number-of-n
     ∷ test-refuses-dimension
     ∷ test-refuses-length
     ∷ test-refuses-coordinate
@@ -1821,7 +1835,7 @@ table =
     ∷ test-refuses-component
     ∷ sum-0-3
     ∷ square-faces
-    ∷ build-takes-full-shelf
+    ∷ arrange-takes-full-shelf
     ∷ list-takes-most-faces
     ∷ list-refuses-dimension
     ∷ list-refuses-n
@@ -1959,13 +1973,16 @@ table =
     ∷ live-below-n
     ∷ range-of-the-dead
     ∷ range-of-the-live
-    ∷ dead-build
-    ∷ dead-check
-    ∷ dead-check-old-order
-    ∷ dead-check-swapped
-    ∷ dead-check-number-of-n
-    ∷ taken-check-old-order
+    ∷ dead-arrange
+    ∷ dead-already
+    ∷ dead-old-order
+    ∷ dead-swapped
+    ∷ dead-number-of-n
+    ∷ taken-old-order
     ∷ dead-list
+    ∷ dead-list-old-order
+    ∷ dead-screen-old-order
+    ∷ dead-regions-old-order
     ∷ dead-box
     ∷ dead-screen
     ∷ dead-explain-inside
@@ -1977,22 +1994,21 @@ table =
     ∷ withdrawn-at-place-v
     ∷ withdrawn-at-place-v-list
     ∷ withdrawn-in-the-first-place
-    ∷ dead-build-room
-    ∷ dead-build-short-order
+    ∷ dead-arrange-room
+    ∷ dead-arrange-short-order
     ∷ dead-list-short-list
-    ∷ all-dead-build
+    ∷ all-dead-arrange
     ∷ all-dead-list
     ∷ live-coordinate-refused
     ∷ dead-bound
-    ∷ build-refuses-points-before-bytes
-    ∷ build-refuses-few-bytes
-    ∷ check-refuses-few-bytes
+    ∷ arrange-refuses-points-before-bytes
+    ∷ arrange-refuses-few-bytes
     ∷ list-refuses-few-bytes
     ∷ screen-refuses-few-bytes
     ∷ explain-refuses-few-bytes
     ∷ regions-refuse-few-bytes
-    ∷ build-refuses-many-bytes
-    ∷ build-refuses-byte-two
+    ∷ arrange-refuses-many-bytes
+    ∷ arrange-refuses-byte-two
     ∷ take-writes
     ∷ take-last
     ∷ take-passes-over-the-dead
@@ -2115,10 +2131,10 @@ left-below = record {
 
 -- Every row holds of the calls as they are defined.
 pub examples-hold : All table
-unfolding lesser greater sumTo totalTo count every keep allTo anyTo rising before treeRun eachOnce isTree leastFrom greatestFrom rootBox boxes aboveAt inside isSettled isOpen openSlots visits digitsWithin digits S isSquare firstOf buildAnswer checkAnswer listCode listAnswer listAfter endToEnd listRegionsCode listsAfter countsAfter insideSlots upToFirst screenVisits leastTo lowestLeast screenCode screenAnswer placeCode placeAnswer ofBits inRange coordinateOf gives pointCode pointAnswer pointAfter lowestTo ownReason branchReason reasonIn reasonOf explainCode explainAnswer mayChangeAll changedAll takeCode takeAnswer takePoints takeLive withdrawAnswer withdrawLive
+unfolding lesser greater sumTo totalTo count every keep allTo anyTo rising before treeRun eachOnce isTree leastFrom greatestFrom rootBox boxes aboveAt inside isSettled isOpen openSlots visits digitsWithin digits S isSquare firstOf arrangeCode arrangeAnswer listCode listAnswer listAfter endToEnd listRegionsCode listsAfter countsAfter insideSlots upToFirst screenVisits leastTo lowestLeast screenCode screenAnswer placeCode placeAnswer ofBits inRange coordinateOf gives pointCode pointAnswer pointAfter lowestTo ownReason branchReason reasonIn reasonOf explainCode explainAnswer mayChangeAll changedAll takeCode takeAnswer takePoints takeLive withdrawAnswer withdrawLive
 examples-hold =
-    example-1-build by built refl refl refl refl
-    also example-1-check by refl
+    example-1-arrange by arranged refl refl refl refl
+    also example-1-already by arranged refl refl refl refl
     also example-2-list by (refl, refl)
     also example-2-open by refl
     also example-2-box by refl
@@ -2129,12 +2145,12 @@ examples-hold =
     also example-5-reach-0 by refl
     also example-5-reach-1 by refl
     also example-6-list by (refl, refl)
-    also example-7-build by built refl refl refl refl
+    also example-7-arrange by arranged refl refl refl refl
     also example-7-list by (refl, refl)
     also example-7-bound by refl
-    also example-8-build by built refl refl refl refl
-    also example-8-check by refl
-    also example-8-swapped by refl
+    also example-8-arrange by arranged refl refl refl refl
+    also example-8-already by arranged refl refl refl refl
+    also example-8-swapped by arranged refl refl refl refl
     also example-9-list by (refl, refl)
     also example-9-test by refl
     also sum-6-2 by refl
@@ -2144,33 +2160,33 @@ examples-hold =
     also sum-65535-4 by refl
     also test-on-the-face by refl
     also test-below-the-face by refl
-    also build-keeps-later-places by built refl refl refl refl
+    also arrange-keeps-later-places by arranged refl refl refl refl
     also list-keeps-later-places by (refl, refl)
-    also build-by-value-not-size by built refl refl refl refl
-    also build-ties-in-three by built refl refl refl refl
-    also build-equal-points by built refl refl refl refl
+    also arrange-by-value-not-size by arranged refl refl refl refl
+    also arrange-ties-in-three by arranged refl refl refl refl
+    also arrange-equal-points by arranged refl refl refl refl
     also list-ties-in-three by (refl, refl)
     also open-ties-in-three by refl
-    also build-three by built refl refl refl refl
+    also arrange-three by arranged refl refl refl refl
     also list-three by (refl, refl)
     also open-three by refl
-    also build-four by built refl refl refl refl
+    also arrange-four by arranged refl refl refl refl
     also list-four by (refl, refl)
     also open-four by refl
-    also check-swapped by refl
-    also build-extremes by built refl refl refl refl
+    also arrange-swapped by arranged refl refl refl refl
+    also arrange-extremes by arranged refl refl refl refl
     also list-extremes by (refl, refl)
     also list-beyond-reach by (refl, refl)
     also list-zero-face by (refl, refl)
     also list-zero-face-above-none by (refl, refl)
     also list-empty by (refl, refl)
-    also build-refuses-k-first by unbuilt refl
-    also check-refuses-no-dimension by refl
-    also build-refuses-n-second by unbuilt refl
-    also build-refuses-points-third by unbuilt refl
-    also build-refuses-room-fourth by unbuilt refl
-    also check-refuses-coordinate-fifth by refl
-    also build-refuses-low-coordinate by unbuilt refl
+    also arrange-refuses-k-first by refusing refl
+    also arrange-refuses-no-dimension by refusing refl
+    also arrange-refuses-n-second by refusing refl
+    also arrange-refuses-points-third by refusing refl
+    also arrange-refuses-room-fourth by refusing refl
+    also arrange-refuses-coordinate-fifth by refusing refl
+    also arrange-refuses-low-coordinate by refusing refl
     also list-refuses-short-list by (refl, refl)
     also list-refuses-coordinate by (refl, refl)
     also list-refuses-h by (refl, refl)
@@ -2181,8 +2197,8 @@ examples-hold =
     also list-refuses-offset by (refl, refl)
     also list-refuses-low-offset by (refl, refl)
     also list-refuses-order by (refl, refl)
-    also check-refuses-number-twice by refl
-    also check-refuses-number-of-n by refl
+    also arrange-number-twice by arranged refl refl refl refl
+    also arrange-number-of-n by arranged refl refl refl refl
     also test-refuses-dimension by refl
     also test-refuses-length by refl
     also test-refuses-coordinate by refl
@@ -2191,7 +2207,7 @@ examples-hold =
     also test-refuses-component by refl
     also sum-0-3 by refl
     also square-faces by refl
-    also build-takes-full-shelf by unbuilt refl
+    also arrange-takes-full-shelf by refusing refl
     also list-takes-most-faces by (refl, refl)
     also list-refuses-dimension by (refl, refl)
     also list-refuses-n by (refl, refl)
@@ -2329,13 +2345,16 @@ examples-hold =
     also live-below-n by (refl, refl, refl)
     also range-of-the-dead by refl
     also range-of-the-live by refl
-    also dead-build by built refl refl refl refl
-    also dead-check by refl
-    also dead-check-old-order by refl
-    also dead-check-swapped by refl
-    also dead-check-number-of-n by refl
-    also taken-check-old-order by refl
+    also dead-arrange by arranged refl refl refl refl
+    also dead-already by arranged refl refl refl refl
+    also dead-old-order by arranged refl refl refl refl
+    also dead-swapped by arranged refl refl refl refl
+    also dead-number-of-n by arranged refl refl refl refl
+    also taken-old-order by arranged refl refl refl refl
     also dead-list by (refl, refl)
+    also dead-list-old-order by (refl, refl)
+    also dead-screen-old-order by refl
+    also dead-regions-old-order by (refl, refl, refl)
     also dead-box by refl
     also dead-screen by refl
     also dead-explain-inside by refl
@@ -2344,25 +2363,24 @@ examples-hold =
     also explain-refuses-order-before-dead by refl
     also dead-regions by (refl, refl, refl)
     also dead-regions-short-lists by (refl, refl, refl)
-    also withdrawn-at-place-v by refl
+    also withdrawn-at-place-v by arranged refl refl refl refl
     also withdrawn-at-place-v-list by (refl, refl)
-    also withdrawn-in-the-first-place by refl
-    also dead-build-room by built refl refl refl refl
-    also dead-build-short-order by unbuilt refl
+    also withdrawn-in-the-first-place by arranged refl refl refl refl
+    also dead-arrange-room by arranged refl refl refl refl
+    also dead-arrange-short-order by refusing refl
     also dead-list-short-list by (refl, refl)
-    also all-dead-build by built refl refl refl refl
+    also all-dead-arrange by arranged refl refl refl refl
     also all-dead-list by (refl, refl)
-    also live-coordinate-refused by refl
+    also live-coordinate-refused by refusing refl
     also dead-bound by refl
-    also build-refuses-points-before-bytes by unbuilt refl
-    also build-refuses-few-bytes by unbuilt refl
-    also check-refuses-few-bytes by refl
+    also arrange-refuses-points-before-bytes by refusing refl
+    also arrange-refuses-few-bytes by refusing refl
     also list-refuses-few-bytes by (refl, refl)
     also screen-refuses-few-bytes by refl
     also explain-refuses-few-bytes by refl
     also regions-refuse-few-bytes by (refl, refl, refl)
-    also build-refuses-many-bytes by unbuilt refl
-    also build-refuses-byte-two by unbuilt refl
+    also arrange-refuses-many-bytes by refusing refl
+    also arrange-refuses-byte-two by refusing refl
     also take-writes by (refl, refl, refl)
     also take-last by (refl, refl, refl)
     also take-passes-over-the-dead by (refl, refl, refl)

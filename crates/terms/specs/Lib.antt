@@ -23,8 +23,7 @@ pub mod Bound
 pub mod Value
 pub mod Reading
 pub mod Refusals
-pub mod BuildCall
-pub mod CheckCall
+pub mod ArrangeCall
 pub mod ListCall
 pub mod ListRegionsCall
 pub mod ScreenCall

@@ -11,13 +11,12 @@ use Rattle.terms.specs.Tree.{shelfRun}
 use Rattle.terms.specs.Region.{Region, region}
 use Rattle.terms.specs.Visits.{visits}
 use Rattle.terms.specs.Lists.{insides, outsides, places}
-use Rattle.terms.specs.Refusals.{Refusal, firstOf, shapeRefusals, liveRefusals, roomRefusals, liveCoordinateRefusals, faceRefusals, treeRefusals, ifDone}
+use Rattle.terms.specs.Refusals.{Refusal, firstOf, stockRefusals, roomRefusals, liveCoordinateRefusals, faceRefusals, treeRefusals, ifDone}
 
 -- List: 1, 2, 3, 15, 4 to 8, 11, then 9.
 abbrev pub listRefusals : Stock → Order → Faces → List ℕ → List Refusal
 listRefusals s o f list =
-    shapeRefusals (s .k) (s .n) (s .points)
-    ++ liveRefusals (s .n) (s .live)
+    stockRefusals s
     ++ roomRefusals (slotsOf s) (length (o .slots))
     ++ roomRefusals (slotsOf s) (length list)
     ++ liveCoordinateRefusals s

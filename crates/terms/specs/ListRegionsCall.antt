@@ -13,7 +13,7 @@ use Rattle.terms.specs.ListCall.{listing}
 use Rattle.terms.specs.ThreeCounts.{countsOf}
 use Rattle.terms.specs.RegionFaces.{joinedFaces, facesOfRegion}
 use Rattle.terms.specs.EndToEnd.{endToEnd}
-use Rattle.terms.specs.Refusals.{Refusal, firstOf, shapeRefusals, liveRefusals, regionCountRefusals, roomRefusals, liveCoordinateRefusals, faceCountsRefusals, faceSliceRefusals, treeRefusals, ifDone}
+use Rattle.terms.specs.Refusals.{Refusal, firstOf, stockRefusals, regionCountRefusals, roomRefusals, liveCoordinateRefusals, faceCountsRefusals, faceSliceRefusals, treeRefusals, ifDone}
 
 -- 4: the order is short of its slots, the list buffer of as many places a region, or the counts buffer of three a region.
 abbrev pub regionRoomRefusals : ℕ → ℕ → ℕ → ℕ → ℕ → List Refusal
@@ -26,8 +26,7 @@ regionFaceRefusals k g = faceCountsRefusals (g .faceCounts) ++ faceSliceRefusals
 -- List regions: 1, 2, 3, 15, 14, 4 to 8, 11, then 9.
 abbrev pub listRegionsRefusals : Stock → Order → Regions → List ℕ → List ℕ → List Refusal
 listRegionsRefusals s o g lists counts =
-    shapeRefusals (s .k) (s .n) (s .points)
-    ++ liveRefusals (s .n) (s .live)
+    stockRefusals s
     ++ regionCountRefusals (g .regionCount) (g .faceCounts)
     ++ regionRoomRefusals (slotsOf s) (g .regionCount) (length (o .slots)) (length lists) (length counts)
     ++ liveCoordinateRefusals s

@@ -9,11 +9,11 @@ use Rattle.terms.specs.Region.{region}
 use Rattle.terms.specs.Lists.{insides}
 use Rattle.terms.specs.Screen.{hasFirst, first, screenVisits}
 use Rattle.terms.specs.Refusals.{Refusal, firstOf, faceRefusals, treeRefusals, ifDone}
-use Rattle.terms.specs.BuildCall.{buildRefusals}
+use Rattle.terms.specs.ArrangeCall.{arrangeRefusals}
 
 -- Screen: 1, 2, 3, 15, 4 to 8, 11, then 9, with 4 for the order alone.
 abbrev pub screenRefusals : Stock → Order → Faces → List Refusal
-screenRefusals s o f = buildRefusals s o ++ faceRefusals (s .k) f ++ treeRefusals s o
+screenRefusals s o f = arrangeRefusals s o ++ faceRefusals (s .k) f ++ treeRefusals s o
 
 module _ (s : Stock) (o : Order) (f : Faces) where
   -- The number that the screen call returns.

@@ -33,7 +33,7 @@ use Rattle.terms.specs.Refusals.{
   stockRefusals,
   ifDone,
 }
-use Rattle.terms.specs.BuildCall.{buildRefusals}
+use Rattle.terms.specs.ArrangeCall.{arrangeRefusals}
 
 -- A sum of products v is above face i: at least its offset.
 unfoldable pub unmarkedAbove : Region → ℕ → ℤ → Bool
@@ -113,7 +113,7 @@ module _ (s : Stock) (o : Order) (f : Faces) where
 
   -- The number that the screen call returns.
   abbrev pub unmarkedScreenCode : ℕ
-  unmarkedScreenCode = firstOf (buildRefusals s o ++ unmarkedFaceRefusals (s .k) f ++ treeRefusals s o)
+  unmarkedScreenCode = firstOf (arrangeRefusals s o ++ unmarkedFaceRefusals (s .k) f ++ treeRefusals s o)
 
   -- The screen call's answer.
   abbrev pub unmarkedScreenAnswer : Screening

@@ -91,6 +91,13 @@ pub struct Explaining {
     pub margin: i64,
 }
 
+// The answer of the arrange call: 1 where the order was the tree already, else 0. A refusal has its number and 0.
+#[repr(C)]
+pub struct Arranging {
+    pub code: u32,
+    pub already: u32,
+}
+
 // What the take call answers: the number taken. A refusal has its number and 0.
 #[repr(C)]
 pub struct Taking {

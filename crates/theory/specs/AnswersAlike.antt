@@ -11,7 +11,7 @@ use Rattle.terms.specs.declared.Reason.{Reason}
 use Rattle.terms.specs.Tests.{every, lowestTo}
 use Rattle.terms.specs.Run.{middle, axis, node, lefts, rights}
 use Rattle.terms.specs.Box.{Box, boxes, rootBox}
-use Rattle.terms.specs.Region.{Region, inside, isOpen, whollyBelow}
+use Rattle.terms.specs.Region.{Region, isOpen, whollyBelow}
 use Rattle.terms.specs.Lists.{insides, outsides}
 use Rattle.terms.specs.Visits.{openSlots}
 use Rattle.terms.specs.Screen.{insideSlots}

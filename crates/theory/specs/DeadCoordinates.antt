@@ -1,19 +1,20 @@
 -- "No answer depends on a dead number's coordinates, and 5 passes over them": two calls whose points differ only there answer alike and leave the same.
 -- The tests read the live ones, so both are refused alike; where they are done, the slots hold live numbers, and all that is told of those is told alike.
 use mathlib.Core.Path.{_≡_, refl, sym, ap, fun-ext, _∙_}
-use mathlib.Core.Bool.{true}
-use mathlib.Core.List.{List, _++_, reverse}
+use mathlib.Core.Bool.{Bool, true}
+use mathlib.Core.List.{List, _++_}
 use Prim.Native.Nat.{ℕ, zero, suc, _*_, _≤_, _<_}
 use native.Mathlib.Omega.{arith}
-use lib.ListN.{length, drop}
+use lib.ListN.{drop}
 use lib.IntN.{ℤ, pos}
-use Rattle.terms.specs.Tests.{every}
+use Rattle.terms.specs.Tests.{bit, every}
 use Rattle.terms.specs.Lent.{Stock, Order, Faces, Regions, stock}
 use Rattle.terms.specs.Live.{isLive}
 use Rattle.terms.specs.Points.{coord, pointOf, belongsTo, slotsOf}
 use Rattle.terms.specs.Tree.{eachOnce, isTree, shelfRun, isShelf}
 use Rattle.terms.specs.Region.{Region, region}
 use Rattle.terms.specs.Visits.{visits}
+use Rattle.terms.specs.declared.Arranging.{Arranging}
 use Rattle.terms.specs.declared.Screening.{Screening}
 use Rattle.terms.specs.Lists.{insides, places}
 use Rattle.terms.specs.Screen.{hasFirst, first, screenVisits}
@@ -22,8 +23,7 @@ use Rattle.terms.specs.EndToEnd.{endToEnd}
 use Rattle.terms.specs.RegionFaces.{facesOfRegion}
 use Rattle.terms.specs.ThreeCounts.{countsOf}
 use Rattle.terms.specs.Refusals.{firstOf, ifDone}
-use Rattle.terms.specs.BuildCall.{buildAnswer, Built}
-use Rattle.terms.specs.CheckCall.{checkAnswer}
+use Rattle.terms.specs.ArrangeCall.{arrangeCode, arrangeAnswer, ArrangedAs}
 use Rattle.terms.specs.ListCall.{listing, listCode, listAnswer, listAfter}
 use Rattle.terms.specs.ScreenCall.{screenCode, screenAnswer}
 use Rattle.terms.specs.ExplainCall.{explaining, explainCode, explainAnswer}
@@ -32,7 +32,7 @@ use Rattle.theory.specs.Flags.{and-true}
 use Rattle.theory.specs.PointsThatBelong.{same-tree}
 use Rattle.theory.specs.AnswersAlike.{same-insides, same-outsides, same-open-slots, same-inside-slots, same-reason}
 use Rattle.theory.specs.MembersAlike.{MembersAlike, in-range-alike}
-use Rattle.theory.specs.BuildCall.{built-once}
+use Rattle.theory.specs.ArrangeCall.{arrange-passed, arranged-code, arranged-once}
 use Rattle.theory.specs.ListCall.{list-passed}
 use Rattle.theory.specs.ScreenCall.{screen-passed}
 use Rattle.theory.specs.ExplainCall.{explain-passed}
@@ -71,38 +71,14 @@ module _ {k : ℕ} (n : ℕ) (live : List ℕ) {points others : List ℤ} (w : M
       same-outsides g some (isLive n live) (coord k points) (coord k others) agree run all,
     )
 
--- ---- build and check
-pub build-answer-alike : (k n : ℕ) (live : List ℕ) {points others : List ℤ} → MembersAlike k (isLive n live) points others → (o : Order)
-    → buildAnswer (stock k n points live) o ≡ buildAnswer (stock k n others live) o
-unfolding buildAnswer
-build-answer-alike k n live w o = rw (w .sizes, in-range-alike w n)
-
-pub check-answer-alike : (k n : ℕ) (live : List ℕ) {points others : List ℤ} → MembersAlike k (isLive n live) points others → (o : Order)
-    → checkAnswer (stock k n points live) o ≡ checkAnswer (stock k n others live) o
-unfolding checkAnswer firstOf
-check-answer-alike zero n live w o = refl
-check-answer-alike (suc k) n live w o = rw (w .sizes, in-range-alike w n, shelf-alike n live w (omega arith) o)
-
--- Done, both orders are the shelf: where k is 0 neither call is done.
-arranged-alike : (k n : ℕ) (live : List ℕ) {points others : List ℤ} → MembersAlike k (isLive n live) points others → {o : Order} {b : ℕ} {y : Order}
-    → Built (stock k n others live) o b y → b ≡ 0 → isShelf (stock k n points live) y ≡ true
-unfolding buildAnswer firstOf
-arranged-alike zero n live w f z = absurd (omega (arith, f .answered))
-arranged-alike (suc k) n live w {y = y} f z = shelf-alike n live w (omega arith) y ∙ f .arranged z
-
-pub built-alike : (k n : ℕ) (live : List ℕ) {points others : List ℤ} → MembersAlike k (isLive n live) points others → {o : Order} {a b : ℕ} {x y : Order}
-    → Built (stock k n points live) o a x → Built (stock k n others live) o b y → (a ≡ b) × (x .slots ≡ y .slots)
-built-alike k n live w {o} e f = built-once e (record {
-  answered = f .answered ∙ sym (build-answer-alike k n live w o);
-  size = f .size;
-  arranged = arranged-alike k n live w f;
-  later = f .later;
-  refused = f .refused;
-})
-
 -- ---- the tests
 -- Each call is refused alike. Where k is 0 both are refused by 1.
 module _ (n : ℕ) (live : List ℕ) (o : Order) where
+  arrange-code-alike : (k : ℕ) {points others : List ℤ} → MembersAlike k (isLive n live) points others
+      → arrangeCode (stock k n points live) o ≡ arrangeCode (stock k n others live) o
+  unfolding arrangeCode
+  arrange-code-alike k w = rw (w .sizes, in-range-alike w n)
+
   list-code-alike : (f : Faces) (list : List ℕ) (k : ℕ) {points others : List ℤ} → MembersAlike k (isLive n live) points others
       → listCode (stock k n points live) o f list ≡ listCode (stock k n others live) o f list
   unfolding listCode firstOf
@@ -134,6 +110,27 @@ module _ (k n : ℕ) (live : List ℕ) {points others : List ℤ} (w : MembersAl
 
   abbrev t : Stock
   t = stock k n others live
+
+  arrange-answer-alike : arrangeAnswer s o ≡ arrangeAnswer t o
+  unfolding arrangeAnswer
+  arrange-answer-alike = rw (arrange-code-alike n live o k w) (go (arrangeCode t o) refl)
+    where
+      said : ℕ → Bool → Arranging
+      said c shelf = ifDone c (record { code = 0; already = bit shelf }) (record { code = c; already = 0 })
+
+      go : (c : ℕ) → arrangeCode t o ≡ c → said c (isShelf s o) ≡ said c (isShelf t o)
+      go zero z = ap (said zero) (shelf-alike n live w (arrange-passed t o z .tested .some) o)
+      go (suc c) z = refl
+
+  -- Done, both orders are the shelf.
+  pub arranged-alike : {a b : Arranging} {x y : Order} → ArrangedAs s o a x → ArrangedAs t o b y → (a ≡ b) × (x .slots ≡ y .slots)
+  arranged-alike {y = y} e f = arranged-once e (record {
+    answered = f .answered ∙ sym arrange-answer-alike;
+    size = f .size;
+    arranged = λ z. shelf-alike n live w (arrange-passed t o (sym (arranged-code f) ∙ z) .tested .some) y ∙ f .arranged z;
+    later = f .later;
+    refused = f .refused;
+  })
 
   module _ (f : Faces) (list : List ℕ) where
     -- Done, the slots hold live numbers.

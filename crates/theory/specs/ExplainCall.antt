@@ -14,7 +14,7 @@ use Rattle.terms.specs.declared.Reason.the-variants.{InsideWithBranch, InsideBy
 use Rattle.terms.specs.Tests.{bit, count}
 use Rattle.terms.specs.Lent.{Stock, Order, Faces}
 use Rattle.terms.specs.Points.{pointOf, belongsTo, slotsOf}
-use Rattle.terms.specs.Tree.{eachOnce, isTree, shelfRun}
+use Rattle.terms.specs.Tree.{eachOnce, isTree, shelfRun, isShelf}
 use Rattle.terms.specs.Region.{Region, region, inside}
 use Rattle.terms.specs.Lists.{insides}
 use Rattle.terms.specs.Reason.{InRun, ReasonFor}
@@ -27,10 +27,10 @@ use Rattle.theory.specs.Flags.{and-true}
 use Rattle.theory.specs.Counting.{count-keep, count-same, count-no}
 use Rattle.theory.specs.EachNumberOnce.{each-once}
 use Rattle.theory.specs.StockNumbers.{stock-under}
-use Rattle.theory.specs.FirstRefusal.{FirstHeld, noZero, first-held, passed-parts, first-skip, first-stop}
+use Rattle.theory.specs.FirstRefusal.{FirstHeld, noZero, first-held, first-zero, passed-parts, first-skip, first-stop}
 use Rattle.theory.specs.RefusalsPassed.{dead-passed}
-use Rattle.theory.specs.CheckCall.{room-same}
-use Rattle.theory.specs.ScreenCall.{ScreenPassed, screen-tests-passed, screen-first, screen-code-is-list-code}
+use Rattle.theory.specs.ArrangeCall.{room-same}
+use Rattle.theory.specs.ScreenCall.{ScreenPassed, screen-tests-passed, screen-first, screen-code-is-list-code, screen-nine}
 use Rattle.theory.specs.Reasons.{saysInside, saysItself, tree-run, number-stands, reason-true, because-only}
 
 -- The answer's number says inside: 1 or 2.
@@ -126,6 +126,14 @@ module _ (s : Stock) (o : Order) (f : Faces) (p : ℕ) where
     -- and no other.
     pub picture-reason-only : (why : Reason) → ReasonFor g (pointOf s) (shelfRun s o) p why → why ≡ reasonOf g (pointOf s) (shelfRun s o) p
     picture-reason-only why z = because-only g (pointOf s) (shelfRun s o) (tree-run g (pointOf s) (belongsTo s) (s .n) (shelfRun s o) shelf) (z .stands) why (z .because)
+
+-- "The list calls still refuse a wrong order": where the call is done with one order, it gives 9 with any other that has room and is not the shelf.
+pub explain-nine : (s : Stock) (o q : Order) (f : Faces) (p : ℕ) → explainCode s q f p ≡ 0 → slotsOf s ≤ length (o .slots) → isShelf s o ≡ false → explainCode s o f p ≡ 9
+unfolding explainCode screenCode
+explain-nine s o q f p e room other =
+    let done : screenCode s q f ≡ 0 = first-zero (screenRefusals s q f) (passed-parts (screenRefusals s q f) (deadRefusals (s .n) p (s .live)) (explain-first s q f p .done e) .0) in
+    let nine = screen-nine s o q f done room other in
+    first-stop (screenRefusals s o f) (deadRefusals (s .n) p (s .live)) (λ z. omega (arith, nine, z)) ∙ nine
 
 -- Orders that agree in their first v slots are explained alike.
 pub explain-reads : (s : Stock) (o q : Order) (f : Faces) (p : ℕ) → shelfRun s o ≡ shelfRun s q → explainAnswer s o f p ≡ explainAnswer s q f p

@@ -17,8 +17,7 @@ pub mod InsideAndOutside
 pub mod FirstRefusal
 pub mod FirstRefusalIsLowest
 pub mod RefusalsPassed
-pub mod BuildCall
-pub mod CheckCall
+pub mod ArrangeCall
 pub mod ListCall
 pub mod EndToEnd
 pub mod RegionFaces

@@ -2,26 +2,27 @@
 -- Done, the order has v slots and the buffer v places, and the two lists fill just those.
 use mathlib.Core.Path.{_≡_, refl, sym, ap, _∙_}
 use mathlib.Core.Logic.{_≢_}
-use mathlib.Core.Bool.{true}
+use mathlib.Core.Bool.{true, false}
 use mathlib.Core.List.{List, _++_, reverse}
 use Prim.Native.Nat.{ℕ, _≤_}
 use native.Mathlib.Omega.{arith}
 use lib.ListN.{length, take, drop, length-append, length-drop}
 use lib.Seq.{take-at, take-append-le, drop-at, length-take-le}
 use lib.Dec.{ltb}
+use borrow.Author.Tests.{le-ltb}
 use Rattle.terms.specs.declared.Listing.{Listing}
 use Rattle.terms.specs.Lent.{Stock, Order, Faces}
 use Rattle.terms.specs.Points.{pointOf, slotsOf}
 use Rattle.terms.specs.Tree.{shelfRun, isShelf}
 use Rattle.terms.specs.Region.{region}
 use Rattle.terms.specs.Lists.{insides, outsides, places}
-use Rattle.terms.specs.Refusals.{Refusal, stockRefusals, roomRefusals, liveCoordinateRefusals, faceRefusals, treeRefusals}
+use Rattle.terms.specs.Refusals.{Refusal, firstOf, stockRefusals, roomRefusals, liveCoordinateRefusals, faceRefusals, treeRefusals}
 use Rattle.terms.specs.ListCall.{listRefusals, listCode, listAnswer, listAfter, ListedAs}
 use Rattle.theory.specs.Tested.{TestedPoints, TestedFaces}
 use Rattle.theory.specs.InsideAndOutside.{places-length}
-use Rattle.theory.specs.FirstRefusal.{Passed, FirstHeld, noZero, first-held, first-zero, passed-parts, passed-join, if-refused, if-code}
+use Rattle.theory.specs.FirstRefusal.{Passed, FirstHeld, noZero, first-held, first-zero, first-skip, passed-parts, passed-join, passed-next, passed-none, if-refused, if-code}
 use Rattle.theory.specs.RefusalsPassed.{stock-passed, room-passed, faces-passed, tree-passed}
-use Rattle.theory.specs.CheckCall.{room-same}
+use Rattle.theory.specs.ArrangeCall.{room-same}
 
 -- What the list call has tested.
 pub record ListPassed (s : Stock) (o : Order) (f : Faces) (list : List ℕ) : Type 0 where
@@ -113,6 +114,19 @@ other-faces-done s o f g list e p =
       faces = p;
       tree = w .tree;
     })
+
+-- "The list calls still refuse a wrong order": where the call is done with one order, it gives 9 with any other that has room and is not the shelf.
+pub list-nine : (s : Stock) (o q : Order) (f : Faces) (list : List ℕ) → listCode s q f list ≡ 0 → slotsOf s ≤ length (o .slots) → isShelf s o ≡ false
+    → listCode s o f list ≡ 9
+unfolding listCode firstOf
+list-nine s o q f list e room other =
+    let w = list-groups s q f list e in
+    let passed : Passed (stockRefusals s ++ O s o f list ++ L s o f list ++ C s o f list ++ F s o f list) =
+    passed-join (stockRefusals s) (O s o f list ++ L s o f list ++ C s o f list ++ F s o f list) (w .shape)
+    (passed-join (O s o f list) (L s o f list ++ C s o f list ++ F s o f list) (passed-next (le-ltb (length (o .slots)) (slotsOf s) room) passed-none)
+    (passed-join (L s o f list) (C s o f list ++ F s o f list) (w .list-room)
+    (passed-join (C s o f list) (F s o f list) (w .coordinates) (w .faces)))) in
+    first-skip (stockRefusals s ++ O s o f list ++ L s o f list ++ C s o f list ++ F s o f list) (treeRefusals s o) passed ∙ rw other refl
 
 module _ (s : Stock) (o q : Order) (f : Faces) (list buffer : List ℕ) (slots : shelfRun s o ≡ shelfRun s q)
     (rooms : ltb (length list) (slotsOf s) ≡ ltb (length buffer) (slotsOf s)) where

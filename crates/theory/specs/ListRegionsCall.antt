@@ -2,7 +2,7 @@
 -- it writes. Done, the list call on the faces of any one region is done too, and gives what stands in that region's places and counts.
 use mathlib.Core.Path.{_≡_, refl, sym, ap, _∙_}
 use mathlib.Core.Logic.{_≢_}
-use mathlib.Core.Bool.{true}
+use mathlib.Core.Bool.{true, false}
 use mathlib.Core.List.{List, _++_}
 use Prim.Native.Nat.{ℕ, _*_, _≤_, _<_}
 use lib.ListN.{length, take, drop}
@@ -15,7 +15,7 @@ use Rattle.terms.specs.Tree.{shelfRun, isShelf}
 use Rattle.terms.specs.EndToEnd.{endToEnd, part}
 use Rattle.terms.specs.RegionFaces.{facesOfRegion}
 use Rattle.terms.specs.ThreeCounts.{countsOf}
-use Rattle.terms.specs.Refusals.{Refusal, stockRefusals, regionCountRefusals, roomRefusals, liveCoordinateRefusals, treeRefusals}
+use Rattle.terms.specs.Refusals.{Refusal, firstOf, stockRefusals, regionCountRefusals, roomRefusals, liveCoordinateRefusals, treeRefusals}
 use Rattle.terms.specs.ListCall.{listCode, listAnswer, listAfter}
 use Rattle.terms.specs.ListRegionsCall.{
   regionFaceRefusals,
@@ -29,11 +29,11 @@ use Rattle.terms.specs.ListRegionsCall.{
 }
 use Rattle.theory.specs.Tested.{TestedPoints}
 use Rattle.theory.specs.InsideAndOutside.{places-length}
-use Rattle.theory.specs.FirstRefusal.{Passed, FirstHeld, noZero, first-held, passed-parts, passed-next, passed-none, if-refused}
+use Rattle.theory.specs.FirstRefusal.{Passed, FirstHeld, noZero, first-held, first-skip, passed-parts, passed-join, passed-next, passed-none, if-refused}
 use Rattle.theory.specs.RefusalsPassed.{RegionsCounted, region-count-passed, stock-passed, room-passed, tree-passed}
 use Rattle.theory.specs.EndToEnd.{ends-part, ends-later}
 use Rattle.theory.specs.RegionFaces.{TestedRegions, regions-tested, region-faces-passed}
-use Rattle.theory.specs.CheckCall.{room-same}
+use Rattle.theory.specs.ArrangeCall.{room-same}
 use Rattle.theory.specs.ListCall.{groups-listed, list-front}
 
 -- What the call has tested.
@@ -156,6 +156,26 @@ module _ (s : Stock) (o : Order) (g : Regions) (lists counts : List ℕ) where
         pub region-counts : part (r * 3) 3 (countsAfter s o g lists counts) ≡ countsOf (listAnswer s o (facesOfRegion (s .k) g r) list)
         unfolding listAnswer
         region-counts = counts-part ∙ rw region-done refl
+
+-- "The list calls still refuse a wrong order": where the call is done with one order, it gives 9 with any other that has room and is not the shelf.
+pub list-regions-nine : (s : Stock) (o q : Order) (g : Regions) (lists counts : List ℕ) → listRegionsCode s q g lists counts ≡ 0 → slotsOf s ≤ length (o .slots)
+    → isShelf s o ≡ false → listRegionsCode s o g lists counts ≡ 9
+unfolding listRegionsCode firstOf
+list-regions-nine s o q g lists counts e room other =
+    let w = region-groups s q g lists counts e in
+    let N : List Refusal = regionCountRefusals (g .regionCount) (g .faceCounts) in
+    let O : List Refusal = roomRefusals (slotsOf s) (length (o .slots)) in
+    let L : List Refusal = roomRefusals (g .regionCount * slotsOf s) (length lists) in
+    let M : List Refusal = roomRefusals (g .regionCount * 3) (length counts) in
+    let C : List Refusal = liveCoordinateRefusals s in
+    let F : List Refusal = regionFaceRefusals (s .k) g in
+    let passed : Passed (stockRefusals s ++ N ++ O ++ L ++ M ++ C ++ F) =
+    passed-join (stockRefusals s) (N ++ O ++ L ++ M ++ C ++ F) (w .shape)
+    (passed-join N (O ++ L ++ M ++ C ++ F) (w .counted)
+    (passed-join O (L ++ M ++ C ++ F) (passed-next (le-ltb (length (o .slots)) (slotsOf s) room) passed-none)
+    (passed-join L (M ++ C ++ F) (w .lists-room)
+    (passed-join M (C ++ F) (w .counts-room) (passed-join C F (w .coordinates) (w .faces)))))) in
+    first-skip (stockRefusals s ++ N ++ O ++ L ++ M ++ C ++ F) (treeRefusals s o) passed ∙ rw other refl
 
 module _ (s : Stock) (o q : Order) (g : Regions) (lists counts listBuffer countsBuffer : List ℕ) (slots : shelfRun s o ≡ shelfRun s q)
     (list-rooms : ltb (length lists) (g .regionCount * slotsOf s) ≡ ltb (length listBuffer) (g .regionCount * slotsOf s))

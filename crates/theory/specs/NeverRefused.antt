@@ -15,8 +15,7 @@ use Rattle.terms.specs.Live.{isLive}
 use Rattle.terms.specs.Points.{coord, pointOf, isCoordinate, belongsTo}
 use Rattle.terms.specs.LivePoints.{membersInRange}
 use Rattle.terms.specs.Refusals.{Refusal}
-use Rattle.terms.specs.BuildCall.{buildRefusals}
-use Rattle.terms.specs.CheckCall.{checkRefusals}
+use Rattle.terms.specs.ArrangeCall.{arrangeRefusals}
 use Rattle.terms.specs.ListCall.{listRefusals}
 use Rattle.terms.specs.ListRegionsCall.{listRegionsRefusals}
 use Rattle.terms.specs.ScreenCall.{screenRefusals}
@@ -46,14 +45,15 @@ never-answered {c} l {rs} e w = λ z.
     let p = w .found (λ n. omega arith) in
     never-at c rs e (p .0) (p .1) (p .2 ∙ z)
 
-module _ (s : Stock) (o : Order) (fit : membersInRange (s .k) (pointOf s) (belongsTo s) (s .n) ≡ true) where
-  pub build-never-five : neverHolds 5 (buildRefusals s o) ≡ true
-  unfolding neverHolds
-  build-never-five = rw fit
+-- "9 no longer comes from this call."
+pub arrange-never-nine : (s : Stock) (o : Order) → neverHolds 9 (arrangeRefusals s o) ≡ true
+unfolding neverHolds
+arrange-never-nine s o = refl
 
-  pub check-never-five : neverHolds 5 (checkRefusals s o) ≡ true
+module _ (s : Stock) (o : Order) (fit : membersInRange (s .k) (pointOf s) (belongsTo s) (s .n) ≡ true) where
+  pub arrange-never-five : neverHolds 5 (arrangeRefusals s o) ≡ true
   unfolding neverHolds
-  check-never-five = rw fit
+  arrange-never-five = rw fit
 
   pub list-never-five : (f : Faces) (list : List ℕ) → neverHolds 5 (listRefusals s o f list) ≡ true
   unfolding neverHolds

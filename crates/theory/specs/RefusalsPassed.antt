@@ -11,7 +11,7 @@ use borrow.Author.Tests.{leb-true, ltb-false, le-ltb, eqb-true, eqb-false, eq-eq
 use Rattle.terms.specs.Tests.{every}
 use Rattle.terms.specs.Lent.{Stock, Order, Faces}
 use Rattle.terms.specs.Live.{isLiveByte, isLive}
-use Rattle.terms.specs.Points.{pointOf, isCoordinate, belongsTo}
+use Rattle.terms.specs.Points.{pointOf, belongsTo}
 use Rattle.terms.specs.Region.{isComponent, isOffset, isMark}
 use Rattle.terms.specs.Tree.{isShelf}
 use Rattle.terms.specs.LivePoints.{membersInRange}
@@ -21,7 +21,6 @@ use Rattle.terms.specs.Refusals.{
   sizeRefusals,
   lengthRefusals,
   roomRefusals,
-  coordinateRefusals,
   liveCoordinateRefusals,
   faceCountRefusals,
   faceCountsRefusals,
@@ -40,7 +39,7 @@ use Rattle.terms.specs.Refusals.{
 }
 use Rattle.theory.specs.Flags.{not-false, false-not, and-true}
 use Rattle.theory.specs.Counting.{every-at}
-use Rattle.theory.specs.Tested.{TestedPoints, TestedFaces, Between, within-each}
+use Rattle.theory.specs.Tested.{TestedPoints, TestedFaces, within-each}
 use Rattle.theory.specs.StockNumbers.{stock-under}
 use Rattle.theory.specs.PointsInRange.{in-range-each, point-ranges}
 use Rattle.theory.specs.FirstRefusal.{Passed, passed-parts, passed-next, passed-none}

@@ -125,7 +125,7 @@ one-run (suc f) (suc e) k at j (x ∷ xs) (y ∷ ys) t u same =
     whole-run x xs ∙ (cc) ∙ sym (whole-run y ys)
 
 -- "Points and ties leave exactly one such order": two orders that are the tree of the same numbers are one, so there is at most one. That there is at
--- least one follows from the build call, which is done for any points that pass its tests and then leaves such an order.
+-- least one follows from the arrange call, which is done for any points that pass its tests and then leaves such an order.
 pub one-tree : (k : ℕ) (at : ℕ → ℕ → ℤ) (belongs : ℕ → Bool) (m : ℕ) (xs ys : List ℕ) → BelongBelow belongs m
     → isTree k at belongs m xs ≡ true → isTree k at belongs m ys ≡ true → xs ≡ ys
 unfolding isTree

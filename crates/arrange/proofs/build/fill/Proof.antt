@@ -21,12 +21,12 @@ loop-holds c = filled-none _ _ _ (c .before .pre .1)
 cast-p : tie.Need-cast-p Inv-loop μ-loop
 cast-p c = omega arith
 
-belongs-requires : tie.Need-belongs-requires Inv-loop μ-loop
-belongs-requires c κs = tt
+is-below-requires : tie.Need-is-below-requires Inv-loop μ-loop
+is-below-requires c κs = tt
 
 -- A number that belongs has a place.
 room : (c : tie.Then1 Inv-loop μ-loop) → c .before .before .before .loop .at < length (c .before .before .before .loop .order)
-room c = filled-room (c .before .before .before .loop .inv) (c .before .before .loop-test .taken) (sym (c .before .belongs .ensures) ∙ c .if1 .taken)
+room c = filled-room (c .before .before .before .loop .inv) (c .before .before .loop-test .taken) (sym (c .before .is-below .ensures) ∙ c .if1 .taken)
 
 mul-order : tie.Need-mul-order Inv-loop μ-loop
 mul-order c = omega (arith, room c)
@@ -47,7 +47,7 @@ loop-again : tie.Need-loop-again Inv-loop μ-loop
 loop-again c =
     let f = c .before .before .before .loop .inv in
     let l = c .before .before .loop-test .taken in
-    let says = sym (c .before .belongs .ensures) in
+    let says = sym (c .before .is-below .ensures) in
     ⊎-elim
     (λ z. rw (z .1, z .2) (filled-turn f l (says ∙ z .0 .taken)))
     (λ z. rw (z .1, z .2) (filled-skip f l (says ∙ z .0 .left)))
@@ -67,7 +67,7 @@ fill-spec =
     μ-loop
     loop-holds
     cast-p
-    belongs-requires
+    is-below-requires
     mul-order
     slice-write-order
     add-at

@@ -4,8 +4,7 @@ use mathlib.Core.Bool.{Bool}
 use Prim.Native.Nat.{ℕ}
 use lib.ListN.{length}
 use borrow.Author.Needs.{needs}
-use Rattle.terms.specs.Live.{isLive, liveCount}
-use Rattle.terms.specs.Points.{below}
+use Rattle.terms.specs.Live.{liveCount}
 use Rattle.terms.specs.Tree.{members}
 use Rattle.theory.specs.LiveNumbers.{full-live}
 use Rattle.theory.specs.RisingNumbers.{length-rising, members-shelf}

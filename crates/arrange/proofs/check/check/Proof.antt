@@ -3,7 +3,6 @@ use mathlib.Core.Path.{_≡_, sym, _∙_}
 use mathlib.Core.Bool.{_||_, not, true}
 use native.Mathlib.Omega.{arith}
 use lib.ListN.{replicate}
-use borrow.Author.Needs.{needs}
 use Rattle.terms.specs.Tests.{every}
 use Rattle.terms.specs.Lent.{stock}
 use Rattle.terms.specs.Live.{isLive}

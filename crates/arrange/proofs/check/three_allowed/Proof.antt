@@ -20,26 +20,26 @@ Inv-loop k m points p q r least end d₀ d =
 abbrev μ-loop : tie.MeasureT-loop
 μ-loop k m points p q r least end d₀ d = 4 - d
 
-belongs-requires : tie.Need-belongs-requires Inv-loop μ-loop
-belongs-requires c κs = tt
+is-below-requires : tie.Need-is-below-requires Inv-loop μ-loop
+is-below-requires c κs = tt
 
-belongs-requires-2 : tie.Need-belongs-requires-2 Inv-loop μ-loop
-belongs-requires-2 c κs = tt
+is-below-requires-2 : tie.Need-is-below-requires-2 Inv-loop μ-loop
+is-below-requires-2 c κs = tt
 
-belongs-requires-3 : tie.Need-belongs-requires-3 Inv-loop μ-loop
-belongs-requires-3 c κs = tt
+is-below-requires-3 : tie.Need-is-below-requires-3 Inv-loop μ-loop
+is-below-requires-3 c κs = tt
 
--- The three calls together ask whether all three numbers belong.
-all-belong : (c : tie.After-belongs3 Inv-loop μ-loop) → (let a = c .before .before .before .args in
-    c .before .before .belongs .result && c .before .belongs2 .result && c .belongs3 .result ≡ allThree (below (a .m)) (a .p) (a .q) (a .r))
-all-belong c = rw (c .before .before .belongs .ensures, c .before .belongs2 .ensures, c .belongs3 .ensures)
+-- The three calls together ask whether all three numbers are below m.
+all-below : (c : tie.After-is-below3 Inv-loop μ-loop) → (let a = c .before .before .before .args in
+    c .before .before .is-below .result && c .before .is-below2 .result && c .is-below3 .result ≡ allThree (below (a .m)) (a .p) (a .q) (a .r))
+all-below c = rw (c .before .before .is-below .ensures, c .before .is-below2 .ensures, c .is-below3 .ensures)
 
-belonging : (c : tie.Else1 Inv-loop μ-loop) → (let a = c .before .before .before .before .args in
+all-three-below : (c : tie.Else1 Inv-loop μ-loop) → (let a = c .before .before .before .before .args in
     allThree (below (a .m)) (a .p) (a .q) (a .r) ≡ true)
-belonging c = accepted (all-belong (c .before)) (c .if1 .left)
+all-three-below c = accepted (all-below (c .before)) (c .if1 .left)
 
 returns : tie.Need-returns Inv-loop μ-loop
-returns c = sym (not-belonging _ _ _ _ _ _ _ _ (refused (all-belong (c .before)) (c .if1 .taken)))
+returns c = sym (not-belonging _ _ _ _ _ _ _ _ (refused (all-below (c .before)) (c .if1 .taken)))
 
 loop-holds : tie.Need-loop-holds Inv-loop μ-loop
 loop-holds c = (omega arith, λ i l. absurd (omega arith))
@@ -47,7 +47,7 @@ loop-holds c = (omega arith, λ i l. absurd (omega arith))
 -- Once all k dimensions are passed the three are allowed.
 passed : (c : tie.At-loop Inv-loop μ-loop) → (let a = c .before .before .before .before .before .args in
     a .k ≤ c .loop .d → threeAllowed (a .k) (a .m) (a .points .now) (a .t4) (a .t5) (a .p) (a .q) (a .r) ≡ true)
-passed c h = all-within _ _ _ _ _ _ _ _ (belonging (c .before)) (λ d l. c .loop .inv .1 d (omega arith))
+passed c h = all-within _ _ _ _ _ _ _ _ (all-three-below (c .before)) (λ d l. c .loop .inv .1 d (omega arith))
 
 returns-2 : tie.Need-returns-2 Inv-loop μ-loop
 returns-2 c = sym (passed (c .before .before) (c .if2 .taken))
@@ -65,23 +65,23 @@ array-read-e : tie.Need-array-read-e Inv-loop μ-loop
 array-read-e c = omega (arith, c .before .loop-test .taken)
 
 -- The three numbers are below m, so that each has a key on the turn's dimension.
-each-belongs : (c : tie.Else2 Inv-loop μ-loop) → (let a = c .before .before .before .before .before .before .before .args in
+each-below : (c : tie.Else2 Inv-loop μ-loop) → (let a = c .before .before .before .before .before .before .before .args in
     EachOfThree (below (a .m)) (a .p) (a .q) (a .r))
-each-belongs c = each-of-three _ _ _ _ (belonging (c .before .before .before))
+each-below c = each-of-three _ _ _ _ (all-three-below (c .before .before .before))
 
 key-requires : tie.Need-key-requires Inv-loop μ-loop
 key-requires c κs =
-    run-keyed (c .before .before .before .before .before .before .before .pre) 0 (omega arith) (each-belongs c .first) (c .before .before .loop .d) (c .if2 .left)
+    run-keyed (c .before .before .before .before .before .before .before .pre) 0 (omega arith) (each-below c .first) (c .before .before .loop .d) (c .if2 .left)
 
 key-requires-2 : tie.Need-key-requires-2 Inv-loop μ-loop
 key-requires-2 c κs =
     let e = c .before in
-    run-keyed (e .before .before .before .before .before .before .before .pre) 1 (omega arith) (each-belongs e .second) (e .before .before .loop .d) (e .if2 .left)
+    run-keyed (e .before .before .before .before .before .before .before .pre) 1 (omega arith) (each-below e .second) (e .before .before .loop .d) (e .if2 .left)
 
 key-requires-3 : tie.Need-key-requires-3 Inv-loop μ-loop
 key-requires-3 c κs =
     let e = c .before .before in
-    run-keyed (e .before .before .before .before .before .before .before .pre) 2 (omega arith) (each-belongs e .third) (e .before .before .loop .d) (e .if2 .left)
+    run-keyed (e .before .before .before .before .before .before .before .pre) 2 (omega arith) (each-below e .third) (e .before .before .loop .d) (e .if2 .left)
 
 -- What a turn asks of the three numbers, and that its test of their keys answers it.
 abbrev asked : tie.After-key3 Inv-loop μ-loop → Bool
@@ -122,9 +122,9 @@ three-allowed-spec =
     (tie.spec
     Inv-loop
     μ-loop
-    belongs-requires
-    belongs-requires-2
-    belongs-requires-3
+    is-below-requires
+    is-below-requires-2
+    is-below-requires-3
     returns
     loop-holds
     returns-2

@@ -1,5 +1,4 @@
 -- A refusal is the answer; where all was passed, what is measured of the one point, read into a value, is.
-use mathlib.Core.Path.{_≡_, refl, ap, _∙_}
 use native.Mathlib.Omega.{arith}
 use mir.Facts.{toZ-ofZ}
 use Rattle.whole.specs.Fits.{sfits-mag}

@@ -1,9 +1,9 @@
 -- A refusal is the answer; where all was passed, what the screen of the first v slots found is, and its visits are no more than v.
 use mathlib.Core.Path.{_≡_}
 use mathlib.Core.Bool.{Bool}
-use Prim.Native.Nat.{ℕ, _-_, _≤_}
+use Prim.Native.Nat.{_-_, _≤_}
 use native.Mathlib.Omega.{arith}
-use lib.ListN.{length, take}
+use lib.ListN.{take}
 use lib.Seq.{length-take-le}
 use Rattle.terms.specs.Lent.{stock, orderOf, faces}
 use Rattle.terms.specs.Live.{liveCount}

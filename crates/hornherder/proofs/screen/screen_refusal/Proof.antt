@@ -2,22 +2,22 @@
 use mathlib.Core.Path.{refl}
 use Rattle.terms.specs.Lent.{stock, orderOf}
 use Rattle.theory.specs.FirstRefusal.{noZero}
-use Rattle.theory.specs.BuildCall.{BuildPassed}
+use Rattle.theory.specs.ArrangeCall.{ArrangePassed}
 use Rattle.hornherder.specs.First.{first-stops, first-goes-on, found-refused, found-stops, found-goes-on}
-use Rattle.hornherder.specs.BuildOutcome.{build-tested}
+use Rattle.hornherder.specs.ArrangeOutcome.{arrange-tested}
 use Rattle.hornherder.proofs.screen.screen_refusal.Statement.{statement}
 use Rattle.hornherder.proofs.screen.screen_refusal.Tie as tie
 
 -- What 1, 2, 3, 15, 4 and 5 have tested.
 passed : (c : tie.Else1) → let a = c .before .before .before .before .before .before .args in
-    BuildPassed (stock (a .k) (a .n) (a .points .now) (a .live .now)) (orderOf (a .order .now))
-passed c = build-tested _ _ (c .before .before .build-refusal .ensures .first) (c .if1 .left)
+    ArrangePassed (stock (a .k) (a .n) (a .points .now) (a .live .now)) (orderOf (a .order .now))
+passed c = arrange-tested _ _ (c .before .before .arrange-refusal .ensures .first) (c .if1 .left)
 
-build-refusal-requires : tie.Need-build-refusal-requires
-build-refusal-requires c κs = tt
+arrange-refusal-requires : tie.Need-arrange-refusal-requires
+arrange-refusal-requires c κs = tt
 
 returns : tie.Need-returns
-returns c = found-stops _ (c .before .before .build-refusal .ensures) (c .if1 .taken)
+returns c = found-stops _ (c .before .before .arrange-refusal .ensures) (c .if1 .taken)
 
 face-refusal-requires : tie.Need-face-refusal-requires
 face-refusal-requires c κs = passed c .tested .few
@@ -27,22 +27,22 @@ unfolding noZero
 returns-2 c =
     let e = c .before .before in
     found-refused
-    (first-goes-on refl (e .before .before .build-refusal .ensures .first) (e .if1 .left) (first-stops _ (c .before .face-refusal .ensures) (c .if2 .taken)))
+    (first-goes-on refl (e .before .before .arrange-refusal .ensures .first) (e .if1 .left) (first-stops _ (c .before .face-refusal .ensures) (c .if2 .taken)))
     (c .if2 .taken)
 
 tree-refusal-requires : tie.Need-tree-refusal-requires
 tree-refusal-requires c κs =
     let e = c .before .before in
     let t = passed e in
-    let told = e .before .before .build-refusal .ensures .many (e .if1 .left) in
+    let told = e .before .before .arrange-refusal .ensures .many (e .if1 .left) in
     (t .tested, (told, rw told (t .room)))
 
 returns-3 : tie.Need-returns-3
 unfolding noZero
 returns-3 c =
     let e = c .before .before .before in
-    found-goes-on refl (e .before .before .build-refusal .ensures) (e .if1 .left)
+    found-goes-on refl (e .before .before .arrange-refusal .ensures) (e .if1 .left)
     (first-goes-on refl (c .before .before .face-refusal .ensures) (c .before .if2 .left) (c .tree-refusal .ensures))
 
 pub screen-refusal-spec : {M : Type 1} → statement M
-screen-refusal-spec = tie.close (tie.spec build-refusal-requires returns face-refusal-requires returns-2 tree-refusal-requires returns-3)
+screen-refusal-spec = tie.close (tie.spec arrange-refusal-requires returns face-refusal-requires returns-2 tree-refusal-requires returns-3)

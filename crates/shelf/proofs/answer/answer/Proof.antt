@@ -39,53 +39,53 @@ mul-coordinates c = omega (arith, said c .coordinates)
 mul-components : tie.Need-mul-components
 mul-components c = omega (arith, said c .components)
 
-sub-build-shelf : tie.Need-sub-build-shelf
-sub-build-shelf c = search needs
+sub-arrange-shelf : tie.Need-sub-arrange-shelf
+sub-arrange-shelf c = search needs
 
-part-build-shelf-start : tie.Need-part-build-shelf-start
-part-build-shelf-start c = search needs
+part-arrange-shelf-start : tie.Need-part-arrange-shelf-start
+part-arrange-shelf-start c = search needs
 
-part-build-shelf-end : tie.Need-part-build-shelf-end
-part-build-shelf-end c = omega (arith, said (c .before) .coordinates)
+part-arrange-shelf-end : tie.Need-part-arrange-shelf-end
+part-arrange-shelf-end c = omega (arith, said (c .before) .coordinates)
 
-sub-build-shelf-2 : tie.Need-sub-build-shelf-2
-sub-build-shelf-2 c = search needs
+sub-arrange-shelf-2 : tie.Need-sub-arrange-shelf-2
+sub-arrange-shelf-2 c = search needs
 
-part-build-shelf-start-2 : tie.Need-part-build-shelf-start-2
-part-build-shelf-start-2 c = search needs
+part-arrange-shelf-start-2 : tie.Need-part-arrange-shelf-start-2
+part-arrange-shelf-start-2 c = search needs
 
-part-build-shelf-end-2 : tie.Need-part-build-shelf-end-2
-part-build-shelf-end-2 c = omega (arith, said (c .before .before .before) .points)
+part-arrange-shelf-end-2 : tie.Need-part-arrange-shelf-end-2
+part-arrange-shelf-end-2 c = omega (arith, said (c .before .before .before) .points)
 
-sub-build-shelf-3 : tie.Need-sub-build-shelf-3
-sub-build-shelf-3 c = search needs
+sub-arrange-shelf-3 : tie.Need-sub-arrange-shelf-3
+sub-arrange-shelf-3 c = search needs
 
-part-build-shelf-start-3 : tie.Need-part-build-shelf-start-3
-part-build-shelf-start-3 c = search needs
+part-arrange-shelf-start-3 : tie.Need-part-arrange-shelf-start-3
+part-arrange-shelf-start-3 c = search needs
 
-part-build-shelf-end-3 : tie.Need-part-build-shelf-end-3
-part-build-shelf-end-3 c = omega (arith, said (c .before .before .before .before .before) .components)
+part-arrange-shelf-end-3 : tie.Need-part-arrange-shelf-end-3
+part-arrange-shelf-end-3 c = omega (arith, said (c .before .before .before .before .before) .components)
 
-sub-build-shelf-4 : tie.Need-sub-build-shelf-4
-sub-build-shelf-4 c = search needs
+sub-arrange-shelf-4 : tie.Need-sub-arrange-shelf-4
+sub-arrange-shelf-4 c = search needs
 
-part-build-shelf-start-4 : tie.Need-part-build-shelf-start-4
-part-build-shelf-start-4 c = search needs
+part-arrange-shelf-start-4 : tie.Need-part-arrange-shelf-start-4
+part-arrange-shelf-start-4 c = search needs
 
-part-build-shelf-end-4 : tie.Need-part-build-shelf-end-4
-part-build-shelf-end-4 c = omega (arith, said (c .before .before .before .before .before .before .before) .faces)
+part-arrange-shelf-end-4 : tie.Need-part-arrange-shelf-end-4
+part-arrange-shelf-end-4 c = omega (arith, said (c .before .before .before .before .before .before .before) .faces)
 
-sub-build-shelf-5 : tie.Need-sub-build-shelf-5
-sub-build-shelf-5 c = search needs
+sub-arrange-shelf-5 : tie.Need-sub-arrange-shelf-5
+sub-arrange-shelf-5 c = search needs
 
-part-build-shelf-start-5 : tie.Need-part-build-shelf-start-5
-part-build-shelf-start-5 c = search needs
+part-arrange-shelf-start-5 : tie.Need-part-arrange-shelf-start-5
+part-arrange-shelf-start-5 c = search needs
 
-part-build-shelf-end-5 : tie.Need-part-build-shelf-end-5
-part-build-shelf-end-5 c = omega (arith, said (c .before .before .before .before .before .before .before .before .before) .faces)
+part-arrange-shelf-end-5 : tie.Need-part-arrange-shelf-end-5
+part-arrange-shelf-end-5 c = omega (arith, said (c .before .before .before .before .before .before .before .before .before) .faces)
 
-build-shelf-requires : tie.Need-build-shelf-requires
-build-shelf-requires c κs =
+arrange-shelf-requires : tie.Need-arrange-shelf-requires
+arrange-shelf-requires c κs =
     let few = said (c .before .before .before .before .before .before .before .before .before .before .before) .points in
     (few, (simp sub-zero (ones-live _ few), search needs))
 
@@ -95,7 +95,7 @@ same-length-2 c = search needs
 returns-2 : tie.Need-returns-2
 returns-2 c =
     let no = c .before .before .before .before .before .before .before .before .before .before .before .before .before .before in
-    answer-shelved (no .before .before .before .before .before .read .ensures) (no .if1 .left) (simp sub-zero at (c .before .before .build-shelf .ensures))
+    answer-shelved (no .before .before .before .before .before .read .ensures) (no .if1 .left) (simp sub-zero at (c .before .before .arrange-shelf .ensures))
 
 pub answer-spec : {M : Type 1} → statement M
 answer-spec =
@@ -110,21 +110,21 @@ answer-spec =
     returns
     mul-coordinates
     mul-components
-    sub-build-shelf
-    part-build-shelf-start
-    part-build-shelf-end
-    sub-build-shelf-2
-    part-build-shelf-start-2
-    part-build-shelf-end-2
-    sub-build-shelf-3
-    part-build-shelf-start-3
-    part-build-shelf-end-3
-    sub-build-shelf-4
-    part-build-shelf-start-4
-    part-build-shelf-end-4
-    sub-build-shelf-5
-    part-build-shelf-start-5
-    part-build-shelf-end-5
-    build-shelf-requires
+    sub-arrange-shelf
+    part-arrange-shelf-start
+    part-arrange-shelf-end
+    sub-arrange-shelf-2
+    part-arrange-shelf-start-2
+    part-arrange-shelf-end-2
+    sub-arrange-shelf-3
+    part-arrange-shelf-start-3
+    part-arrange-shelf-end-3
+    sub-arrange-shelf-4
+    part-arrange-shelf-start-4
+    part-arrange-shelf-end-4
+    sub-arrange-shelf-5
+    part-arrange-shelf-start-5
+    part-arrange-shelf-end-5
+    arrange-shelf-requires
     same-length-2
     returns-2)

@@ -7,8 +7,8 @@ use Rattle.terms.specs.Refusals.{roomRefusals}
 use Rattle.theory.specs.FirstRefusal.{noZero}
 use Rattle.hornherder.specs.First.{First, first-stops, first-passed, first-goes-on, found-refused, found-stops, found-goes-on}
 use Rattle.hornherder.specs.Live.{stock-lent}
-use Rattle.hornherder.proofs.build.build_refusal.Statement.{statement}
-use Rattle.hornherder.proofs.build.build_refusal.Tie as tie
+use Rattle.hornherder.proofs.arranging.arrange_refusal.Statement.{statement}
+use Rattle.hornherder.proofs.arranging.arrange_refusal.Tie as tie
 
 stock-refusal-requires : tie.Need-stock-refusal-requires
 stock-refusal-requires c κs = tt
@@ -48,5 +48,5 @@ returns-3 c =
     found-goes-on refl (e .before .before .stock-refusal .ensures) (e .if1 .left)
     (first-goes-on refl (roomed (c .before .before)) (c .before .if2 .left) (c .live-coordinate-refusal .ensures))
 
-pub build-refusal-spec : {M : Type 1} → statement M
-build-refusal-spec = tie.close (tie.spec stock-refusal-requires returns room-refusal-requires returns-2 live-coordinate-refusal-requires returns-3)
+pub arrange-refusal-spec : {M : Type 1} → statement M
+arrange-refusal-spec = tie.close (tie.spec stock-refusal-requires returns room-refusal-requires returns-2 live-coordinate-refusal-requires returns-3)
