@@ -32,7 +32,9 @@ use Rattle.terms.specs.Before.{before}
 use Rattle.terms.specs.Tree.{treeRun, members, eachOnce, isTree, shelfRun, isShelf}
 use Rattle.terms.specs.Box.{Box, leastFrom, greatestFrom, rootBox, boxes, shelfBoxes}
 use Rattle.terms.specs.Region.{Region, region, reach, aboveAt, above, inside, whollyAbove, isSettled, isOpen}
-use Rattle.terms.specs.Visits.{openSlots, visits}
+use Rattle.terms.specs.TightBox.{tightBoxes}
+use Rattle.terms.specs.Summary.{row, cornersOf, summary, sameNumbers, isSummary}
+use Rattle.terms.specs.Visits.{openSlots, visits, tightOpenSlots, tightVisits}
 use Rattle.terms.specs.Bound.{digitsWithin, digits, S, isSquare}
 use Rattle.terms.specs.Value.{inRange, coordinateOf}
 use Rattle.terms.specs.Reading.{colour, grey, nothing, gives}
@@ -108,6 +110,10 @@ pub data Row : Type 0 where
   takes : (k n : ℕ) (points : List ℤ) (live : List ℕ) (point : List ℤ) → Taking → (pointsAfter : List ℤ) (liveAfter : List ℕ) → Row
   withdraws : (n number : ℕ) (live : List ℕ) (answer : ℕ) (after : List ℕ) → Row
   changes : (n : ℕ) (live : List ℕ) → List Change → (may : Bool) (after : List ℕ) → Row
+  summarised : Shelf → (summary : List ℤ) → Row
+  summaries : Shelf → (given : List ℤ) → Bool → Row
+  tightOpens : Shelf → Faces → List Bool → Row
+  visited : Shelf → Faces → (tight first : ℕ) → Row
 
 -- What it is for a row to hold: the call's definition gives what the row says.
 abbrev pub Holds : Row → Type 0
@@ -136,6 +142,11 @@ Holds (takes k n points live point answer pointsAfter liveAfter) =
     (takeAnswer k n points live point ≡ answer) × (takePoints k n points live point ≡ pointsAfter) × (takeLive k n points live point ≡ liveAfter)
 Holds (withdraws n number live answer after) = (withdrawAnswer n number live ≡ answer) × (withdrawLive n number live ≡ after)
 Holds (changes n live cs may after) = (mayChangeAll n live cs ≡ may) × (changedAll n live cs ≡ after)
+Holds (summarised s numbers) = summary (s .lent .k) (pointOf (s .lent)) (slots s) ≡ numbers
+Holds (summaries s given answer) = isSummary (s .lent .k) (pointOf (s .lent)) (slots s) given ≡ answer
+Holds (tightOpens s f open-slots) = tightOpenSlots (cut s f) (pointOf (s .lent)) (slots s) ≡ open-slots
+Holds (visited s f tight first) =
+    (tightVisits (cut s f) (pointOf (s .lent)) (slots s) ≡ tight) × (visits (cut s f) (pointOf (s .lent)) (slots s) ≡ first)
 
 -- Every row of a table holds.
 infixr 20 _by_also_
@@ -1756,6 +1767,71 @@ change-no-room = changes 2 (1 ∷ 0 ∷ []) (taken ∷ taken ∷ []) false (1 �
 abbrev pub change-withdrawn-twice : Row
 change-withdrawn-twice = changes 2 (1 ∷ 1 ∷ []) (withdrawn 1 ∷ withdrawn 1 ∷ []) false (1 ∷ 0 ∷ [])
 
+-- ---- tight boxes
+
+-- The summary of A, slot after slot: x 4..4, y 2..2 for number 1 alone; x 1..4, y 2..5 for the left branch; and so on.
+abbrev summaryOfA : List ℤ
+summaryOfA =
+    pos 4 ∷ pos 2 ∷ pos 4 ∷ pos 2
+    ∷ pos 1 ∷ pos 2 ∷ pos 4 ∷ pos 5
+    ∷ pos 1 ∷ pos 5 ∷ pos 1 ∷ pos 5
+    ∷ pos 1 ∷ pos 1 ∷ pos 7 ∷ pos 8
+    ∷ pos 7 ∷ pos 1 ∷ pos 7 ∷ pos 1
+    ∷ pos 6 ∷ pos 1 ∷ pos 7 ∷ pos 6
+    ∷ []
+
+abbrev pub tight-summary : Row
+tight-summary = summarised shelfA summaryOfA
+
+-- It is the true one; with its last number one more it is not, nor with one number too few.
+abbrev pub tight-true : Row
+tight-true = summaries shelfA summaryOfA true
+
+abbrev pub tight-last-number-wrong : Row
+tight-last-number-wrong = summaries one (pos 4 ∷ pos 2 ∷ pos 4 ∷ pos 3 ∷ []) false
+
+abbrev pub tight-one-short : Row
+tight-one-short = summaries one (pos 4 ∷ pos 2 ∷ pos 4 ∷ []) false
+
+-- The two faces leave three slots open by their tight boxes, where five are open by their branch boxes: the slots alone in their branch are settled.
+abbrev pub tight-two-faces : Row
+tight-two-faces = tightOpens shelfA twoFaces (false ∷ true ∷ false ∷ true ∷ false ∷ true ∷ [])
+
+abbrev pub tight-two-faces-visits : Row
+tight-two-faces-visits = visited shelfA twoFaces 3 5
+
+-- Right of five the right branch, x 6..7, is wholly above; its branch box, x 4..7, is open.
+abbrev pub tight-right-of-five : Row
+tight-right-of-five = tightOpens shelfA rightOfFive (false ∷ false ∷ false ∷ true ∷ false ∷ false ∷ [])
+
+abbrev pub tight-right-of-five-visits : Row
+tight-right-of-five-visits = visited shelfA rightOfFive 1 3
+
+-- Two points of one dimension: the root is open either way, the slot alone in its branch by its branch box only.
+abbrev pub tight-pair-visits : Row
+tight-pair-visits = visited pair fromFive 1 2
+
+-- With number 2 withdrawn: of the live points only.
+abbrev pub tight-dead-summary : Row
+tight-dead-summary =
+    summarised withdrawnA
+    (pos 2 ∷ pos 2 ∷ pos 2 ∷ pos 2
+    ∷ pos 1 ∷ pos 2 ∷ pos 2 ∷ pos 5
+    ∷ pos 1 ∷ pos 1 ∷ pos 7 ∷ pos 6
+    ∷ pos 7 ∷ pos 1 ∷ pos 7 ∷ pos 1
+    ∷ pos 6 ∷ pos 1 ∷ pos 7 ∷ pos 6
+    ∷ [])
+
+abbrev pub tight-dead-visits : Row
+tight-dead-visits = visited withdrawnA twoFaces 3 5
+
+-- One point has no visit, and the empty shelf no summary.
+abbrev pub tight-one-visits : Row
+tight-one-visits = visited one twoFaces 0 0
+
+abbrev pub tight-empty-summary : Row
+tight-empty-summary = summarised (shelf 2 0 [] []) []
+
 -- ---- the statement
 
 -- The table.
@@ -2039,6 +2115,19 @@ table =
     ∷ change-freed-first
     ∷ change-no-room
     ∷ change-withdrawn-twice
+    ∷ tight-summary
+    ∷ tight-true
+    ∷ tight-last-number-wrong
+    ∷ tight-one-short
+    ∷ tight-two-faces
+    ∷ tight-two-faces-visits
+    ∷ tight-right-of-five
+    ∷ tight-right-of-five-visits
+    ∷ tight-pair-visits
+    ∷ tight-dead-summary
+    ∷ tight-dead-visits
+    ∷ tight-one-visits
+    ∷ tight-empty-summary
     ∷ []
 
 -- The reason of number 1 where the root is settled: no branch is nearer.
@@ -2131,7 +2220,7 @@ left-below = record {
 
 -- Every row holds of the calls as they are defined.
 pub examples-hold : All table
-unfolding lesser greater sumTo totalTo count every keep allTo anyTo rising before treeRun eachOnce isTree leastFrom greatestFrom rootBox boxes aboveAt inside isSettled isOpen openSlots visits digitsWithin digits S isSquare firstOf arrangeCode arrangeAnswer listCode listAnswer listAfter endToEnd listRegionsCode listsAfter countsAfter insideSlots upToFirst screenVisits leastTo lowestLeast screenCode screenAnswer placeCode placeAnswer ofBits inRange coordinateOf gives pointCode pointAnswer pointAfter lowestTo ownReason branchReason reasonIn reasonOf explainCode explainAnswer mayChangeAll changedAll takeCode takeAnswer takePoints takeLive withdrawAnswer withdrawLive
+unfolding lesser greater sumTo totalTo count every keep allTo anyTo rising before treeRun eachOnce isTree leastFrom greatestFrom rootBox boxes aboveAt inside isSettled isOpen openSlots visits digitsWithin digits S isSquare firstOf arrangeCode arrangeAnswer listCode listAnswer listAfter endToEnd listRegionsCode listsAfter countsAfter insideSlots upToFirst screenVisits leastTo lowestLeast screenCode screenAnswer placeCode placeAnswer ofBits inRange coordinateOf gives pointCode pointAnswer pointAfter lowestTo ownReason branchReason reasonIn reasonOf explainCode explainAnswer mayChangeAll changedAll takeCode takeAnswer takePoints takeLive withdrawAnswer withdrawLive row cornersOf sameNumbers tightBoxes tightOpenSlots tightVisits
 examples-hold =
     example-1-arrange by arranged refl refl refl refl
     also example-1-already by arranged refl refl refl refl
@@ -2411,4 +2500,17 @@ examples-hold =
     also change-freed-first by (refl, refl)
     also change-no-room by (refl, refl)
     also change-withdrawn-twice by (refl, refl)
+    also tight-summary by refl
+    also tight-true by refl
+    also tight-last-number-wrong by refl
+    also tight-one-short by refl
+    also tight-two-faces by refl
+    also tight-two-faces-visits by (refl, refl)
+    also tight-right-of-five by refl
+    also tight-right-of-five-visits by (refl, refl)
+    also tight-pair-visits by (refl, refl)
+    also tight-dead-summary by refl
+    also tight-dead-visits by (refl, refl)
+    also tight-one-visits by (refl, refl)
+    also tight-empty-summary by refl
     also nothing-left

@@ -8,6 +8,8 @@ pub mod Tree
 pub mod LivePoints
 pub mod Changes
 pub mod Box
+pub mod TightBox
+pub mod Summary
 pub mod Region
 pub mod Visits
 pub mod Lists

@@ -1,21 +1,21 @@
 -- A point of a box lies between the box's two corners in reach, so a settled box settles its points, and a settled branch goes to one list.
 -- A point is the box whose rows are both the point, so this is a case of nesting.
-use mathlib.Core.Path.{_≡_, refl}
-use mathlib.Core.Bool.{true, false}
+use mathlib.Core.Path.{_≡_, refl, sym, _∙_}
+use mathlib.Core.Bool.{Bool, true, false}
 use mathlib.Core.List.{List, []}
 use Prim.Native.Nat.{ℕ, _<_}
 use lib.IntN.{ℤ, pos, negsuc}
 use lib.Signed.{_≤ℤ_}
 use Rattle.whole.specs.IndexedSum.{sum-same}
 use Rattle.terms.specs.Box.{Box}
-use Rattle.terms.specs.Region.{Region, reach, above, inside, bySign, against, along, whollyAbove, whollyBelow}
+use Rattle.terms.specs.Region.{Region, reach, above, inside, bySign, against, along, whollyAbove, whollyBelow, isOpen}
 use Rattle.terms.specs.Lists.{insides, outsides}
-use Rattle.theory.specs.Flags.{contra, not-true, true-not, false-not}
+use Rattle.theory.specs.Flags.{clash, contra, not-true, not-false, true-not, false-not}
 use Rattle.theory.specs.AllAndAny.{OneBelow, each-all, one-all-false}
 use Rattle.theory.specs.AboveIsUpward.{above-up}
 use Rattle.theory.specs.Keeping.{keep-all, keep-none}
 use Rattle.theory.specs.Boxes.{In, Held, dot, in-nested}
-use Rattle.theory.specs.Nesting.{against-nested, along-nested}
+use Rattle.theory.specs.Nesting.{Open, to-open, against-nested, along-nested}
 
 by-sign-same : (n a : ℤ) → bySign n a a ≡ a
 by-sign-same (pos n) a = refl
@@ -51,6 +51,18 @@ module _ (g : Region) {b : Box} {point : ℕ → ℤ} (w : In (g .k) b point) wh
   pub below-one-outside : OneBelow (g .h) (whollyBelow g b) true → inside g point ≡ false
   unfolding inside
   below-one-outside (i, l, e) = one-all-false (g .h) _ (i, l, wholly-below-point i e)
+
+-- A point's own box is never open: both its corners are the point, which is above a face or below it.
+pub dot-settled : (g : Region) (point : ℕ → ℤ) → isOpen g (dot point) ≡ false
+dot-settled g point = go (isOpen g (dot point)) refl
+  where
+    go : (t : Bool) → isOpen g (dot point) ≡ t → t ≡ false
+    go false e = refl
+    go true e =
+        let o : Open g (dot point) = to-open e in
+        let i : ℕ = o .not-above .0 in
+        let same : reach g i (against g i (dot point)) ≡ reach g i (along g i (dot point)) = against-dot g i point ∙ sym (along-dot g i point) in
+        clash (not-false (above g i (along g i (dot point))) (o .not-below i (o .not-above .1))) (rw same at (o .not-above .2))
 
 -- "A settled branch goes to a list as one run": all its numbers are inside, or all are outside.
 module _ (g : Region) {at : ℕ → ℕ → ℤ} {b : Box} {run : List ℕ} (w : Held (g .k) at b run) where

@@ -36,6 +36,11 @@ pub mod PointsAlike
 pub mod SumBound
 pub mod BoundBySteps
 pub mod SquareBound
+pub mod SlotBySlot
+pub mod TightBoxes
+pub mod TightWithinBranch
+pub mod TightVisits
+pub mod Summary
 pub mod FaceLentAlone
 pub mod VisitsOfTheListCall
 pub mod FacesSplit
@@ -59,6 +64,7 @@ pub mod TreeDepth
 pub mod RunTests
 pub mod PointsThatBelong
 pub mod AnswersAlike
+pub mod TightAlike
 pub mod Answers
 pub mod RootBoxOfSame
 pub mod Floors

@@ -35,7 +35,7 @@ open-le-faces g b = go (isOpen g b) refl
     go false e = omega arith
 
 -- Any list of boxes.
-open-count-le-faces : (g : Region) (bs : List Box) → count (isOpen g) bs ≤ totalTo (g .h) (λ i. count (isOpen (alone g i)) bs)
+pub open-count-le-faces : (g : Region) (bs : List Box) → count (isOpen g) bs ≤ totalTo (g .h) (λ i. count (isOpen (alone g i)) bs)
 unfolding count
 open-count-le-faces g [] = omega arith
 open-count-le-faces g (b ∷ bs) = omega (
