@@ -1,4 +1,4 @@
-//! The eleven calls, and functions that look at the visits behind a list.
+//! The thirteen calls, and functions that look at the visits behind a list.
 
 use crate::found::{found_number, visits_of_screen};
 use crate::joined::{counts_of_regions, faces_of_regions, places_of_regions};
@@ -9,8 +9,9 @@ use crate::order::{built_order, is_tree};
 use crate::reading::{point_of_reading, Colour, Reading};
 use crate::reason::{margin_to_face, why};
 use crate::refusals;
-use crate::region::{faces, inside};
-use crate::shelf::{coordinates_of, Shelf};
+use crate::region::{faces, inside, Face};
+use crate::shelf::{coordinates_of, live_shelf, Shelf};
+use crate::tight;
 use crate::visits;
 
 /// The answer of arrange: already is 1 where the order was the tree before, else
@@ -21,7 +22,7 @@ pub struct Arranging {
     pub already: u32,
 }
 
-/// The answer of list; on a refusal all but the code is 0.
+/// The answer of list and of list by tight boxes; on a refusal all but the code is 0.
 #[derive(Clone, Copy, Debug, Default, PartialEq, Eq)]
 pub struct Listing {
     pub code: u32,
@@ -119,16 +120,76 @@ pub fn list(
             ..Listing::default()
         };
     }
-    let slots = &order[..total_live(live)];
-    let shelf = Shelf { k, points, slots };
+    let shelf = live_shelf(k, points, live, order);
     let faces = faces(k, h, normals, offsets, marks);
-    let (within, without) = inside_and_outside(&shelf, &faces);
-    list[..slots.len()].copy_from_slice(&places(&within, &without));
+    let (inside, outside) = write_places(&shelf, &faces, list);
     Listing {
         code: 0,
-        inside: within.len() as u32,
-        outside: without.len() as u32,
+        inside,
+        outside,
         visits: visits::visits(&shelf, &faces),
+    }
+}
+
+/// Writes the inside and outside numbers into the first v places of `list`, and
+/// gives the counts of both.
+fn write_places(shelf: &Shelf, faces: &[Face], list: &mut [u32]) -> (u32, u32) {
+    let (within, without) = inside_and_outside(shelf, faces);
+    list[..shelf.slots.len()].copy_from_slice(&places(&within, &without));
+    (within.len() as u32, without.len() as u32)
+}
+
+/// Writes the least and greatest coordinates of each slot's own branch into
+/// `summary`, 2k for each, slot after slot.
+pub fn summarise(
+    k: usize,
+    n: usize,
+    points: &[i32],
+    live: &[u8],
+    order: &[u32],
+    summary: &mut [i32],
+) -> u32 {
+    let code = refusals::of_summarise(k, n, points, live, order, summary.len());
+    if code == 0 {
+        summary.copy_from_slice(&tight::summary(&live_shelf(k, points, live, order)));
+    }
+    code
+}
+
+/// Writes the same lists as list does, with the visits by tight boxes, which the
+/// summary must truly hold.
+#[allow(clippy::too_many_arguments)]
+pub fn list_tight(
+    k: usize,
+    n: usize,
+    h: usize,
+    points: &[i32],
+    live: &[u8],
+    order: &[u32],
+    summary: &[i32],
+    normals: &[i32],
+    offsets: &[i64],
+    marks: &[u8],
+    list: &mut [u32],
+) -> Listing {
+    let length = list.len();
+    let code = refusals::of_list_tight(
+        k, n, h, points, live, order, summary, normals, offsets, marks, length,
+    );
+    if code != 0 {
+        return Listing {
+            code,
+            ..Listing::default()
+        };
+    }
+    let shelf = live_shelf(k, points, live, order);
+    let faces = faces(k, h, normals, offsets, marks);
+    let (inside, outside) = write_places(&shelf, &faces, list);
+    Listing {
+        code: 0,
+        inside,
+        outside,
+        visits: tight::tight_visits(&shelf, &faces),
     }
 }
 
@@ -152,8 +213,7 @@ pub fn screen(
             ..Screening::default()
         };
     }
-    let slots = &order[..total_live(live)];
-    let shelf = Shelf { k, points, slots };
+    let shelf = live_shelf(k, points, live, order);
     let faces = faces(k, h, normals, offsets, marks);
     let number = found_number(&shelf, &faces);
     Screening {
@@ -215,8 +275,7 @@ pub fn explain(
             ..Explaining::default()
         };
     }
-    let slots = &order[..total_live(live)];
-    let shelf = Shelf { k, points, slots };
+    let shelf = live_shelf(k, points, live, order);
     let faces = faces(k, h, normals, offsets, marks);
     let why = why(&shelf, &faces, number).expect("a tree's slots hold every live number");
     Explaining {
@@ -260,10 +319,9 @@ pub fn list_regions(
         counts.len(),
     );
     if code == 0 {
-        let slots = &order[..total_live(live)];
-        let shelf = Shelf { k, points, slots };
+        let shelf = live_shelf(k, points, live, order);
         let all = faces_of_regions(k, face_counts, normals, offsets, marks);
-        lists[..regions * slots.len()].copy_from_slice(&places_of_regions(&shelf, &all));
+        lists[..regions * shelf.slots.len()].copy_from_slice(&places_of_regions(&shelf, &all));
         counts[..regions * 3].copy_from_slice(&counts_of_regions(&shelf, &all));
     }
     code
@@ -345,8 +403,7 @@ pub fn open_slots(
 ) -> Result<Vec<bool>, u32> {
     match refusals::of_list(k, n, h, points, live, order, normals, offsets, marks, n) {
         0 => {
-            let slots = &order[..total_live(live)];
-            let shelf = Shelf { k, points, slots };
+            let shelf = live_shelf(k, points, live, order);
             let faces = faces(k, h, normals, offsets, marks);
             Ok(visits::open_slots(&shelf, &faces))
         }

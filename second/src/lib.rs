@@ -16,12 +16,13 @@ pub mod refusals;
 pub mod region;
 pub mod shelf;
 pub mod text;
+pub mod tight;
 pub mod visits;
 
 pub use bound::{binary_digits, is_square, s};
 pub use calls::{
-    arrange, explain, list, list_regions, open_slots, place, point_from_colour, point_from_grey,
-    point_from_nothing, screen, take, visits_of_face, visits_of_region, withdraw, Arranging,
-    Explaining, Listing, Making, Placing, Screening, Taking,
+    arrange, explain, list, list_regions, list_tight, open_slots, place, point_from_colour,
+    point_from_grey, point_from_nothing, screen, summarise, take, visits_of_face, visits_of_region,
+    withdraw, Arranging, Explaining, Listing, Making, Placing, Screening, Taking,
 };
 pub use text::shelf_text;

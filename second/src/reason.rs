@@ -2,7 +2,7 @@
 
 use crate::region::{below, distance_number, inside, settled, wholly_below};
 use crate::region::{BranchBox, Face};
-use crate::shelf::{point, Run, Shelf};
+use crate::shelf::{branches, point, Run, Shelf};
 use crate::visits::{branch_box, root_box};
 
 /// The reason "inside, settled with a whole branch".
@@ -29,23 +29,6 @@ pub struct Why {
 /// The number's own slot: the one that holds it.
 pub fn own_slot(shelf: &Shelf, number: u32) -> Option<usize> {
     shelf.slots.iter().position(|&held| held == number)
-}
-
-/// All branches of a shelf of `v` live points, in the order of their node slots.
-pub fn branches(v: usize) -> Vec<Run> {
-    (0..v).map(|node| branch_of_node(v, node)).collect()
-}
-
-/// The branch whose node is in this slot, from the root down.
-fn branch_of_node(v: usize, node: usize) -> Run {
-    let mut run = Run::root(v);
-    while node != run.node() {
-        run = match node < run.node() {
-            true => run.left(),
-            false => run.right(),
-        };
-    }
-    run
 }
 
 /// Whether the branch holds what is in this slot; its node is held too.

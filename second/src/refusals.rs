@@ -5,7 +5,8 @@ use crate::live::{belongs, live_numbers, lowest_dead, total_live, DEAD, LIVE};
 use crate::order::is_tree;
 use crate::reading::{number_of_value, values, Reading};
 use crate::region::{CLOSED, OPEN};
-use crate::shelf::point;
+use crate::shelf::{live_shelf, point};
+use crate::tight;
 
 /// One test of the table: its number, and whether it holds.
 type Test<'a> = (u32, &'a dyn Fn() -> bool);
@@ -27,7 +28,7 @@ pub fn too_many_points(n: usize) -> bool {
     n > 65_535
 }
 
-/// Numbers 3 and 7: a slice is not exactly `a` times `b` long.
+/// Numbers 3, 7 and 18: a slice is not exactly `a` times `b` long.
 pub fn not_times_long(length: usize, a: usize, b: usize) -> bool {
     length as u128 != a as u128 * b as u128
 }
@@ -112,6 +113,22 @@ pub fn number_wrong(live: &[u8], number: u32) -> bool {
     !belongs(live, number)
 }
 
+/// Number 18: the summary is not 2k times v long.
+pub fn summary_not_long(k: usize, live: &[u8], length: usize) -> bool {
+    not_times_long(length, 2 * k, total_live(live))
+}
+
+/// Number 18, tested after 9: the summary is not the true one.
+pub fn summary_wrong(
+    k: usize,
+    points: &[i32],
+    live: &[u8],
+    order: &[u32],
+    summary: &[i32],
+) -> bool {
+    summary != tight::summary(&live_shelf(k, points, live, order))
+}
+
 /// What arrange returns: tests 1 to 3, then 15, then 4 and 5.
 pub fn of_arrange(k: usize, n: usize, points: &[i32], live: &[u8], order: &[u32]) -> u32 {
     first_held(&[
@@ -153,6 +170,63 @@ pub fn of_list(
         (8, &|| face_wrong(normals, offsets)),
         (11, &|| marks_wrong(h, marks)),
         (9, &|| !is_tree(k, points, live, order)),
+    ])
+}
+
+/// What summarise returns: tests 1 to 3, then 15, 4 and 18, then 5 and 9. Of the
+/// summary only its length counts.
+pub fn of_summarise(
+    k: usize,
+    n: usize,
+    points: &[i32],
+    live: &[u8],
+    order: &[u32],
+    summary_length: usize,
+) -> u32 {
+    first_held(&[
+        (1, &|| dimension_wrong(k)),
+        (2, &|| too_many_points(n)),
+        (3, &|| not_times_long(points.len(), k, n)),
+        (15, &|| live_wrong(n, live)),
+        (4, &|| shorter(order.len(), live)),
+        (18, &|| summary_not_long(k, live, summary_length)),
+        (5, &|| live_coordinate_wrong(k, points, live)),
+        (9, &|| !is_tree(k, points, live, order)),
+    ])
+}
+
+/// What list by tight boxes returns: the tests of list, with 18 for the summary's
+/// length after 4, and last of all 18 for its truth.
+#[allow(clippy::too_many_arguments)]
+pub fn of_list_tight(
+    k: usize,
+    n: usize,
+    h: usize,
+    points: &[i32],
+    live: &[u8],
+    order: &[u32],
+    summary: &[i32],
+    normals: &[i32],
+    offsets: &[i64],
+    marks: &[u8],
+    list_length: usize,
+) -> u32 {
+    first_held(&[
+        (1, &|| dimension_wrong(k)),
+        (2, &|| too_many_points(n)),
+        (3, &|| not_times_long(points.len(), k, n)),
+        (15, &|| live_wrong(n, live)),
+        (4, &|| {
+            shorter(order.len(), live) || shorter(list_length, live)
+        }),
+        (18, &|| summary_not_long(k, live, summary.len())),
+        (5, &|| live_coordinate_wrong(k, points, live)),
+        (6, &|| too_many_faces(h)),
+        (7, &|| faces_not_long(k, h, normals, offsets)),
+        (8, &|| face_wrong(normals, offsets)),
+        (11, &|| marks_wrong(h, marks)),
+        (9, &|| !is_tree(k, points, live, order)),
+        (18, &|| summary_wrong(k, points, live, order, summary)),
     ])
 }
 

@@ -1,5 +1,6 @@
 //! A shelf: points and the slots that hold the live numbers.
 
+use crate::live::total_live;
 use std::ops::Range;
 
 /// The points, `k` coordinates each, and the slots: one number per live point.
@@ -15,6 +16,12 @@ impl Shelf<'_> {
     pub fn point_at(&self, slot: usize) -> &[i32] {
         point(self.k, self.points, self.slots[slot])
     }
+}
+
+/// The shelf of the live points: its slots are the first v places of the order.
+pub fn live_shelf<'a>(k: usize, points: &'a [i32], live: &[u8], order: &'a [u32]) -> Shelf<'a> {
+    let slots = &order[..total_live(live)];
+    Shelf { k, points, slots }
 }
 
 /// Where the `k` coordinates of the point of this number stand among the points.
@@ -69,4 +76,21 @@ impl Run {
             depth: self.depth + 1,
         }
     }
+}
+
+/// All branches of a shelf of `v` live points, in the order of their node slots.
+pub fn branches(v: usize) -> Vec<Run> {
+    (0..v).map(|node| branch_of_node(v, node)).collect()
+}
+
+/// The branch whose node is in this slot, from the root down.
+fn branch_of_node(v: usize, node: usize) -> Run {
+    let mut run = Run::root(v);
+    while node != run.node() {
+        run = match node < run.node() {
+            true => run.left(),
+            false => run.right(),
+        };
+    }
+    run
 }

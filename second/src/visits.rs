@@ -6,9 +6,15 @@ use crate::shelf::{point, Run, Shelf};
 /// The root box: the least and greatest coordinate over all live points, which
 /// are those in the slots, in each dimension. There is none for the empty shelf.
 pub fn root_box(shelf: &Shelf) -> Option<BranchBox> {
+    box_of_numbers(shelf, shelf.slots)
+}
+
+/// The least and greatest coordinate over the points of these numbers, in each
+/// dimension. There is no such box for no numbers.
+pub fn box_of_numbers(shelf: &Shelf, numbers: &[u32]) -> Option<BranchBox> {
     let k = shelf.k;
     let coordinate = |number: u32, s: usize| point(k, shelf.points, number)[s];
-    let on = |s: usize| shelf.slots.iter().map(move |&number| coordinate(number, s));
+    let on = |s: usize| numbers.iter().map(move |&number| coordinate(number, s));
     Some(BranchBox {
         least: (0..k).map(|s| on(s).min()).collect::<Option<_>>()?,
         greatest: (0..k).map(|s| on(s).max()).collect::<Option<_>>()?,

@@ -1,6 +1,6 @@
 //! Full shelves: 65,535 live points and 32 faces in each dimension.
 
-use second::{arrange, list, s, screen};
+use second::{arrange, list, list_tight, s, screen, summarise, Listing};
 use std::time::Instant;
 
 const N: usize = 65_535;
@@ -15,8 +15,8 @@ fn coordinates(count: usize) -> Vec<i32> {
     (0..count).map(next).collect()
 }
 
-/// Arranges twice, lists and screens a full shelf with 32 square faces, closed and
-/// open by turns, and shows the time.
+/// Arranges twice, lists, screens and lists by tight boxes a full shelf with 32
+/// square faces, closed and open by turns, and shows the time.
 #[test]
 fn full_shelves() {
     for k in 1..=4 {
@@ -58,5 +58,27 @@ fn full_shelves() {
         let first = screen(k, N, 32, &points, &live, &order, &normals, &offsets, &marks);
         assert_eq!((first.code, first.found, first.number), (0, 1, places[0]));
         assert!(first.visits <= answer.visits);
+        let mut summary = vec![0; 2 * k * N];
+        assert_eq!(summarise(k, N, &points, &live, &order, &mut summary), 0);
+        let mut tight_places = vec![0; N];
+        let tight = list_tight(
+            k,
+            N,
+            32,
+            &points,
+            &live,
+            &order,
+            &summary,
+            &normals,
+            &offsets,
+            &marks,
+            &mut tight_places,
+        );
+        assert!(tight.visits <= answer.visits);
+        let visits = answer.visits;
+        assert_eq!(
+            (Listing { visits, ..tight }, tight_places),
+            (answer, places)
+        );
     }
 }
