@@ -1,4 +1,4 @@
-//! The thirteen calls, and functions that look at the visits behind a list.
+//! The fourteen calls, and functions that look at the visits behind a list.
 
 use crate::found::{found_number, visits_of_screen};
 use crate::joined::{counts_of_regions, faces_of_regions, places_of_regions};
@@ -10,6 +10,7 @@ use crate::reading::{point_of_reading, Colour, Reading};
 use crate::reason::{margin_to_face, why};
 use crate::refusals;
 use crate::region::{faces, inside, Face};
+use crate::scan::tests;
 use crate::shelf::{coordinates_of, live_shelf, Shelf};
 use crate::tight;
 use crate::visits;
@@ -29,6 +30,16 @@ pub struct Listing {
     pub inside: u32,
     pub outside: u32,
     pub visits: u32,
+}
+
+/// The answer of scan: tests are the face tests made; on a refusal all but the
+/// code is 0.
+#[derive(Clone, Copy, Debug, Default, PartialEq, Eq)]
+pub struct Scanning {
+    pub code: u32,
+    pub inside: u32,
+    pub outside: u32,
+    pub tests: u32,
 }
 
 /// The answer of screen: found is 1 or 0, and number is 0 where none is found; on
@@ -190,6 +201,42 @@ pub fn list_tight(
         inside,
         outside,
         visits: tight::tight_visits(&shelf, &faces),
+    }
+}
+
+/// Writes the same lists as list does, with the face tests made when each live
+/// point stops at the first face that it is below.
+#[allow(clippy::too_many_arguments)]
+pub fn scan(
+    k: usize,
+    n: usize,
+    h: usize,
+    points: &[i32],
+    live: &[u8],
+    order: &[u32],
+    normals: &[i32],
+    offsets: &[i64],
+    marks: &[u8],
+    list: &mut [u32],
+) -> Scanning {
+    let length = list.len();
+    let code = refusals::of_list(
+        k, n, h, points, live, order, normals, offsets, marks, length,
+    );
+    if code != 0 {
+        return Scanning {
+            code,
+            ..Scanning::default()
+        };
+    }
+    let shelf = live_shelf(k, points, live, order);
+    let faces = faces(k, h, normals, offsets, marks);
+    let (inside, outside) = write_places(&shelf, &faces, list);
+    Scanning {
+        code: 0,
+        inside,
+        outside,
+        tests: tests(&shelf, &faces),
     }
 }
 

@@ -141,8 +141,8 @@ pub fn of_arrange(k: usize, n: usize, points: &[i32], live: &[u8], order: &[u32]
     ])
 }
 
-/// What list returns: tests 1 to 3, then 15, then 4 to 8, then 11, then 9. Of the
-/// list buffer only its length counts.
+/// What list and scan return: tests 1 to 3, then 15, then 4 to 8, then 11, then 9.
+/// Of the list buffer only its length counts.
 #[allow(clippy::too_many_arguments)]
 pub fn of_list(
     k: usize,

@@ -1,6 +1,6 @@
 //! Full shelves: 65,535 live points and 32 faces in each dimension.
 
-use second::{arrange, list, list_tight, s, screen, summarise, Listing};
+use second::{arrange, list, list_tight, s, scan, screen, summarise, Listing};
 use std::time::Instant;
 
 const N: usize = 65_535;
@@ -15,8 +15,8 @@ fn coordinates(count: usize) -> Vec<i32> {
     (0..count).map(next).collect()
 }
 
-/// Arranges twice, lists, screens and lists by tight boxes a full shelf with 32
-/// square faces, closed and open by turns, and shows the time.
+/// Arranges twice, lists, screens, lists by tight boxes and scans a full shelf with
+/// 32 square faces, closed and open by turns, and shows the time.
 #[test]
 fn full_shelves() {
     for k in 1..=4 {
@@ -76,9 +76,23 @@ fn full_shelves() {
         );
         assert!(tight.visits <= answer.visits);
         let visits = answer.visits;
-        assert_eq!(
-            (Listing { visits, ..tight }, tight_places),
-            (answer, places)
+        assert_eq!(Listing { visits, ..tight }, answer);
+        assert_eq!(tight_places, places);
+        let mut scanned_places = vec![0; N];
+        let scanned = scan(
+            k,
+            N,
+            32,
+            &points,
+            &live,
+            &order,
+            &normals,
+            &offsets,
+            &marks,
+            &mut scanned_places,
         );
+        assert_eq!((scanned.code, scanned.inside), (0, answer.inside));
+        assert_eq!(scanned_places, places);
+        assert!((65_535..=32 * 65_535).contains(&scanned.tests));
     }
 }
