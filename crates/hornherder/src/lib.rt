@@ -1,6 +1,8 @@
 // The public calls, a file for each: arrange, list, list of several regions, screen, explain, take, withdraw, the test of one point, and the three that make
 // a point from a reading. Each makes its refusal tests first, then does the work. These eleven exports and the version are all that is public; they take any
 // numbers and any lent memory.
+#![tactic(auto)]
+
 pub mod arranging;
 pub mod explain;
 pub mod list;

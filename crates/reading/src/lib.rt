@@ -1,4 +1,6 @@
 // What a reading gives, by its values.
+#![tactic(auto)]
+
 pub mod value;
 
 ghost use Rattle.std.specs.Prelude.{◌≡◌};

@@ -1,4 +1,6 @@
 // Why a number of a shelf is inside or outside: one way down from the root to the number.
+#![tactic(auto)]
+
 mod way;
 
 ghost use Rattle.std.specs.Prelude.{◌≡◌};

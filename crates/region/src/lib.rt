@@ -1,4 +1,6 @@
 // A point and a box against the faces of a region.
+#![tactic(auto)]
+
 pub mod boxes;
 pub mod faces;
 pub mod judge;

@@ -1,5 +1,7 @@
 // The walk of a shelf against several regions, region after region: the two lists of each in its places of the list buffer, its three counts in its places of
 // the counts buffer.
+#![tactic(auto)]
+
 ghost use Rattle.std.specs.Prelude.{◌≡◌, ◌≤◌, length};
 ghost use Rattle.terms.specs.Lent.{faces_of, regions_of};
 ghost use Rattle.terms.specs.Points.{coord};

@@ -1,4 +1,6 @@
 // The screen of a shelf against a region: the inside number in the lowest slot, or none, and the visits up to there. It stops as soon as it has one.
+#![tactic(auto)]
+
 mod parts;
 
 ghost use Rattle.terms.specs.Lent.{faces_of};

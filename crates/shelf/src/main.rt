@@ -1,4 +1,6 @@
 // The program `shelf`: reads a text from standard input, answers it, and writes the answer to standard output.
+#![tactic(auto)]
+
 mod answer;
 mod input;
 

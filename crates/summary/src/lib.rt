@@ -1,5 +1,7 @@
 // The summary of a shelf: filled in place from the leaves up, and told apart from any other list. Both put a branch's tight box together from its node's
 // point and the boxes that the summary has for its two branches, so that nothing else is remembered.
+#![tactic(auto)]
+
 pub mod boxes;
 pub mod branch_box;
 

@@ -1,4 +1,6 @@
 // The values that the calls share: the box as one value, a reading and what it gives, a reason, and the answers.
+#![tactic(auto)]
+
 pub mod axis;
 
 // A box: its least and its greatest coordinate in each dimension. Places from k on mean nothing.

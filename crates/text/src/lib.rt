@@ -1,4 +1,6 @@
 // The text of the program shelf on slices: reading what it is given, writing what it answers.
+#![tactic(auto)]
+
 mod blocks;
 pub mod input;
 mod number;

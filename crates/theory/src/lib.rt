@@ -1,1 +1,2 @@
 // What follows from the words alone; no code.
+#![tactic(auto)]

@@ -1,4 +1,6 @@
 // The walk of a shelf by its summary: like the walk, with the tight box of every branch read from the summary in place of a box made on the way down.
+#![tactic(auto)]
+
 mod parts;
 
 ghost use Rattle.std.specs.Prelude.{◌≡◌, ◌≤◌, length};

@@ -1,4 +1,6 @@
 // The walk of a shelf against a region: the stock inside from the front of the list, the stock outside from its back, and the visits.
+#![tactic(auto)]
+
 mod parts;
 
 ghost use Rattle.std.specs.Prelude.{◌≡◌, length};

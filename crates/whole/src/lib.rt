@@ -1,1 +1,2 @@
 // Laws of whole numbers, in specs/; there is no code.
+#![tactic(auto)]
