@@ -1,7 +1,7 @@
 -- What arranging a run ensures, and how it is put together: the node is placed, and each half is arranged as a part of the run.
 -- A part that comes back in another order keeps its place beside the node, since its numbers are the same.
 use Rattle.std.specs.Prelude.{◌≡◌, refl, Bool, true, List, [], ◌∷◌, ◌++◌, ℕ, suc, ◌+◌, ◌-◌, ◌≤◌, ◌<◌, length, get_or, take, drop, ℤ}
-use Rattle.std.proofs.Common.{sym, ◌∙◌, append_assoc, append-nil, mod-eq_of_lt, add-one, arith, length-append, length-take, length-drop, drop_of_length_le, take-append-drop, drop-cons, take_at, get_or-take, get_or-drop, take_all, length-take-le}
+use Rattle.std.proofs.Common.{sym, ◌∙◌, append_assoc, append-nil, mod-eq_of_lt, add-one, arith, length-append, length-take, length-drop, drop_of_length-le, take-append-drop, drop-cons, take_at, get_or-take, get_or-drop, take_all, length-take-le}
 use Rattle.std.proofs.Math.Seq.{split_at, take-append-add, drop-append-add}
 use Rattle.std.proofs.lemmas.List.{get_or_at}
 use Rattle.terms.specs.Tests.{every}
@@ -97,7 +97,7 @@ module _ (ys l : List ℕ) (m : ℕ) (h : m < length ys) (e : length l ≡ m) wh
 
   whole_eq : (r : List ℕ) → take (m + 1) fronted ++ (r ++ drop (length fronted - (m + 1)) (drop (m + 1) fronted)) ≡ l ++ get_or ys m 0 ∷ r
   whole_eq r =
-      let d : drop (length fronted - (m + 1)) (drop (m + 1) fronted) ≡ [] = drop_of_length_le
+      let d : drop (length fronted - (m + 1)) (drop (m + 1) fronted) ≡ [] = drop_of_length-le
       (drop (m + 1) fronted) {i = length fronted - (m + 1)} (omega (arith, length-drop (m + 1) fronted)) in
       let t : take (m + 1) fronted ≡ l ++ (get_or ys m 0 ∷ []) = rw fronted_eq (take_past l (get_or ys m 0) (drop (m + 1) ys) m e) in
       rw (d, t, append-nil, append_assoc)

@@ -1,7 +1,7 @@
 -- The list buffer, filled from both ends: what stands in it is said by its front and its back, and two fillings in a row are one.
 -- The places between the two need no word: when every slot is listed none is left.
 use Rattle.std.specs.Prelude.{◌≡◌, refl, Bool, not, ℕ, suc, ◌+◌, ◌-◌, ◌≤◌, ◌<◌, length, take, drop, get_or, set}
-use Rattle.std.proofs.Common.{sym, ap, ◌∙◌, add-one, arith, length-append, length-drop, take-append-drop, drop_of_length_le, take-suc, length-take-le, drop_at, drop-drop, take-take}
+use Rattle.std.proofs.Common.{sym, ap, ◌∙◌, add-one, arith, length-append, length-drop, take-append-drop, drop_of_length-le, take-suc, length-take-le, drop_at, drop-drop, take-take}
 use mathlib.Core.List.{List, [], ◌∷◌, ◌++◌, append_assoc, append-nil, reverse, reverse_aux, reverse_aux-append}
 use Rattle.std.proofs.Math.ListN.{length-reverse_aux}
 use Rattle.std.proofs.lemmas.List.{set_at, set_split, take-append-le}
@@ -40,7 +40,7 @@ filled_all {list} {after} {j} {F} {B} f =
     let few : j ≤ length list = omega arith in
     let e : length list - (length list - j) ≡ j = omega arith in
     let m : length list ≤ length list - 0 = omega arith in
-    let d : drop j after ≡ reverse B = rw (e, drop_of_length_le list m) at f.back in
+    let d : drop j after ≡ reverse B = rw (e, drop_of_length-le list m) at f.back in
     sym (take-append-drop j after) ∙ rw (f.front, d) refl
 
 -- Lists with the same end have the same shorter end.

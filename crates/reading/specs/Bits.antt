@@ -1,7 +1,7 @@
 -- The floor from a float's bits: what the sign, the exponent and the fraction of an `f32` say of its value. Every value is a number of the smallest ones,
 -- 2 to the -149 each; from 1 on in size that number over 2 to the 149 is the 24 digits over a small power of two.
 use Rattle.std.specs.Prelude.{◌≡◌, refl, Bool, true, false, not, cond, ℕ, zero, suc, ◌+◌, ◌-◌, ◌*◌, ◌/◌, ◌%◌, ◌^◌, ◌≤◌, ◌<◌, T, eqb, leb, ℤ, pos, negsuc, Float}
-use Rattle.std.proofs.Common.{sym, ap, ◌∙◌, subst, le_trans, le_of_eq, le_of_suc-le-suc, lt_of_lt_of_le, lt_of_not_le, lt_irrefl, mul_one, mul_assoc, mul_right_comm, mul-le-mul_right, mul-le-mul_left, mul-lt-mul_of_pos_right, le_of_mul-le-mul_right, mod-lt, le-add_right, mul-pos, arith, leb→le, le→leb, eqb→eq, lit<, lit≤, le-leb, pow-add, pow_pos, pow_mono}
+use Rattle.std.proofs.Common.{sym, ap, ◌∙◌, subst, le_trans, le_of_eq, le_of_suc-le-suc, lt_of_lt_of_le, lt_of_not-le, lt_irrefl, mul-one, mul_assoc, mul_right_comm, mul-le-mul_right, mul-le-mul_left, mul-lt-mul_of_pos_right, le_of_mul-le-mul_right, mod-lt, le-add_right, mul-pos, arith, leb→le, le→leb, eqb→eq, lit<, lit≤, le-leb, pow-add, pow_pos, pow_mono}
 use Rattle.std.proofs.Math.Nat.{eq_of_mul-eq-mul_right, div-eq_of_lt}
 use Rattle.std.proofs.Math.Dec.{not_T}
 use Rattle.std.proofs.lemmas.Bool.{lt-leb}
@@ -39,7 +39,7 @@ field_below x h = not_T (eqb (suc x) 255) (λ t. let e : suc x ≡ 255 = eqb→e
 
 fields_value : (s : Bool) (x t : ℕ) → x < 255 → HasValue (of_fields binary32 s x t) s (smallest x t) (2 ^ 149)
 unfolding of_fields
-fields_value s zero t h = subst (λ (n : ℕ). HasValue (odd 24 s t 0 149) s n (2 ^ 149)) (mul_one t) (odd_sign 24 s t 0 149)
+fields_value s zero t h = subst (λ (n : ℕ). HasValue (odd 24 s t 0 149) s n (2 ^ 149)) (mul-one t) (odd_sign 24 s t 0 149)
 fields_value s (suc x) t h =
     subst
     (λ (v : Float). HasValue v s ((8388608 + t) * 2 ^ x) (2 ^ 149))
@@ -54,7 +54,7 @@ no_value s r false a c v = v
 finite_below : (s r : Bool) (x t a c : ℕ) → x < 256 → HasValue (of_fields binary32 s x t) r a c → x < 255
 unfolding of_fields
 finite_below s r x t a c h v =
-    lt_of_not_le
+    lt_of_not-le
     (λ (g : 255 ≤ x).
     let e : x ≡ 255 = omega (arith, h, g) in
     no_value s r (eqb t 0) a c (subst (λ (y : ℕ). HasValue (of_fields binary32 s y t) r a c) e v))
@@ -120,7 +120,7 @@ many_smallest (suc x) t h =
 pub exponent_small : (s : Bool) (a c b : ℕ) → 0 < c → a ≤ 32768 * c → BitsOf s a c b → exponent_of b ≤ 142
 exponent_small s a c b p h o =
     le_of_suc-le-suc
-    (lt_of_not_le
+    (lt_of_not-le
     (λ (g : 143 ≤ exponent_of b).
     let most : smallest (exponent_of b) (fraction_of b) ≤ 2 ^ 164 =
     le_of_mul-le-mul_right

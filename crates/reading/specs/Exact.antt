@@ -1,6 +1,6 @@
 -- 256 times an `f32` of at most 128 in size loses nothing: it has the same digits, and neither its least nor its greatest power of two is out of reach.
 use Rattle.std.specs.Prelude.{◌≡◌, refl, Bool, true, false, ◌&&◌, ℕ, zero, suc, ◌+◌, ◌-◌, ◌*◌, ◌%◌, ◌^◌, ◌≤◌, ◌<◌, T, eqb, ltb, leb, ℤ, pos, negsuc, Float}
-use Rattle.std.proofs.Common.{sym, ap, ◌∙◌, subst, suc-le-suc, lt_of_le_of_lt, lt_of_lt_of_le, le_trans, mul-le-mul_right, mul-le-mul_left, mul_assoc, mul-lt-mul_of_pos_right, mul_one, zero_mul, lt_of_not_le, not-le_of_lt, arith, ltb→lt, leb→le, lit<, lit≤, pow-add, pow_pos, pow_mono}
+use Rattle.std.proofs.Common.{sym, ap, ◌∙◌, subst, suc-le-suc, lt_of_le_of_lt, lt_of_lt_of_le, le_trans, mul-le-mul_right, mul-le-mul_left, mul_assoc, mul-lt-mul_of_pos_right, mul-one, zero-mul, lt_of_not-le, not-le_of_lt, arith, ltb→lt, leb→le, lit<, lit≤, pow-add, pow_pos, pow_mono}
 use Rattle.std.proofs.Math.Pow.{pow-lt}
 use Rattle.std.specs.Float.{fin, binary32}
 use Rattle.std.specs.Float.Ieee.{up, down, unlike, mul, fits, of_bits, round}
@@ -40,7 +40,7 @@ power_least s m k t =
     let c : Bool = leb (down e) (2 ^ 149) in
     let d : Bool = ltb (suc m * up e) (2 ^ 128 * down e) in
     let h : 2 ^ suc k ≤ 2 ^ 149 = leb→le (down e) (2 ^ 149) (and_r (a && b) c (and_l (a && b && c) d t)) in
-    lt_of_not_le (λ (g : 149 ≤ k). not-le_of_lt (pow-lt {i = 149} {j = suc k} (suc-le-suc g)) h)
+    lt_of_not-le (λ (g : 149 ≤ k). not-le_of_lt (pow-lt {i = 149} {j = suc k} (suc-le-suc g)) h)
 
 -- A power taken apart.
 wide : (m k : ℕ) → m * 2 ^ (k + 157) ≡ m * 2 ^ k * 2 ^ 157
@@ -49,7 +49,7 @@ wide m k = ap (λ (x : ℕ). m * x) (pow-add 2 k 157) ∙ sym (mul_assoc m (2 ^ 
 narrow : (m k : ℕ) → suc k ≤ 149 → m * 1 * 256 * 2 ^ 149 ≡ m * 2 ^ (157 - suc k) * 2 ^ suc k
 narrow m k h =
     let g : 157 ≡ 157 - suc k + suc k = omega (arith, h) in
-    ap (λ (x : ℕ). x * 256 * 2 ^ 149) (mul_one m)
+    ap (λ (x : ℕ). x * 256 * 2 ^ 149) (mul-one m)
     ∙ mul_assoc m 256 (2 ^ 149)
     ∙ ap (λ (x : ℕ). m * 2 ^ x) g
     ∙ ap (λ (x : ℕ). m * x) (pow-add 2 (157 - suc k) (suc k))
@@ -72,15 +72,15 @@ by_256 s m (pos k) t h =
     (lit< tt)
     (digits_few s m (pos k) t)
     (subst (λ (x : ℕ). x < 2 ^ 277) (sym (wide m k)) (lt_of_le_of_lt (mul-le-mul_right (2 ^ 157) h) (lit< tt)))
-    (mul_assoc (m * 2 ^ k) 256 (2 ^ 149) ∙ sym (wide m k) ∙ sym (mul_one (m * 2 ^ (k + 157)))))
+    (mul_assoc (m * 2 ^ k) 256 (2 ^ 149) ∙ sym (wide m k) ∙ sym (mul-one (m * 2 ^ (k + 157)))))
 by_256 s zero (negsuc k) t h =
     subst
     (λ (z : Bool). HasValue (round binary32 z 0 (2 ^ suc k * 1)) s 0 (2 ^ suc k))
     (sym (same_sign s))
     (subst
     (λ (d : ℕ). HasValue (round binary32 s 0 d) s 0 (2 ^ suc k))
-    (sym (mul_one (2 ^ suc k)))
-    (round_exact binary32 s 0 (2 ^ suc k) 0 0 (pow_pos (suc k)) (lit< tt) (lit< tt) (sym (zero_mul (2 ^ suc k)))))
+    (sym (mul-one (2 ^ suc k)))
+    (round_exact binary32 s 0 (2 ^ suc k) 0 0 (pow_pos (suc k)) (lit< tt) (lit< tt) (sym (zero-mul (2 ^ suc k)))))
 by_256 s (suc m) (negsuc k) t h =
     let q = suc m in
     let j = 157 - suc k in
@@ -89,7 +89,7 @@ by_256 s (suc m) (negsuc k) t h =
     (sym (same_sign s))
     (subst
     (λ (d : ℕ). HasValue (round binary32 s (q * 1 * 256) d) s (q * 1 * 256) (2 ^ suc k))
-    (sym (mul_one (2 ^ suc k)))
+    (sym (mul-one (2 ^ suc k)))
     (round_exact
     binary32
     s

@@ -1,7 +1,7 @@
 -- How the slots share the summary out: the left branch's numbers, the 2k of the node's slot, the right branch's. What is lent of each share and comes back
 -- goes together to the whole, and the whole is the true one exactly if each share is.
 use Rattle.std.specs.Prelude.{◌≡◌, refl, Bool, true, false, not, ◌&&◌, List, [], ◌∷◌, ◌++◌, ℕ, ◌+◌, ◌-◌, ◌*◌, ◌≤◌, ◌<◌, length, take, drop, ℤ}
-use Rattle.std.proofs.Common.{sym, ap, ◌∙◌, append-nil, arith, length-append, length-drop, drop_of_length_le, take-append-drop, take_all, take-take, take_at, drop_at, drop-drop, length-take-le}
+use Rattle.std.proofs.Common.{sym, ap, ◌∙◌, append-nil, arith, length-append, length-drop, drop_of_length-le, take-append-drop, take_all, take-take, take_at, drop_at, drop-drop, length-take-le}
 use Rattle.std.proofs.lemmas.List.{take-append-le}
 use Rattle.std.specs.Int.Signed.{le_z}
 use Rattle.terms.specs.Points.{coord}
@@ -114,7 +114,7 @@ module _ (S L R : List ℤ) (a b : ℕ) (inner : a ≤ b) (fits : b ≤ length S
   ended_eq : ended ≡ take b fronted ++ R
   ended_eq =
       let z : drop (length fronted - b) (drop b fronted) ≡ [] =
-      drop_of_length_le (drop b fronted) {i = length fronted - b} (omega (arith, length-drop b fronted)) in
+      drop_of_length-le (drop b fronted) {i = length fronted - b} (omega (arith, length-drop b fronted)) in
       rw (z, append-nil)
 
   pub ended_length : length R ≡ length S - b → length ended ≡ length S

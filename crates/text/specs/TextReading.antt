@@ -2,7 +2,7 @@
 -- part that is missed, or a byte that is left, shows that the text says no numbers.
 use Rattle.std.specs.Prelude.{◌≡◌, Bool, false, not, ℕ, ◌*◌, ◌≤◌, ◌<◌, length, take, drop, ℤ}
 use Rattle.std.proofs.Math.Path.{refl}
-use Rattle.std.proofs.Common.{sym, ap, ◌∙◌, arith, length-drop, drop_of_length_le}
+use Rattle.std.proofs.Common.{sym, ap, ◌∙◌, arith, length-drop, drop_of_length-le}
 use Rattle.std.proofs.Math.Bool.{true}
 use mathlib.Core.List.{List, [], ◌++◌, append-nil}
 use Rattle.theory.specs.Flags.{not_true, not_false, clash}
@@ -99,7 +99,7 @@ module _ {text : List ℕ} {k n h next : ℕ} {ok : Bool} (head : ReadsHead text
             all = stands_then (head.found o) (stands_then (front.found o') (back.found o''))
 
             written : text ≡ input_text k n h (take (k * n) points) (take (k * h) normals) (take h offsets)
-            written = all.bytes ∙ rw (drop_of_length_le text l) (append-nil (input_text k n h (take (k * n) points) (take (k * h) normals) (take h offsets)))
+            written = all.bytes ∙ rw (drop_of_length-le text l) (append-nil (input_text k n h (take (k * n) points) (take (k * h) normals) (take h offsets)))
 
             admitted : Admitted k n h (take (k * n) points) (take (k * h) normals) (take h offsets)
             admitted = record {

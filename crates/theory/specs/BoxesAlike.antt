@@ -3,7 +3,7 @@
 use Rattle.std.specs.Prelude.{◌≡◌, Bool}
 use Rattle.std.proofs.Math.Path.{refl}
 use Rattle.std.proofs.Common.{sym, ap, ◌∙◌}
-use mathlib.Core.List.{List, [], ◌∷◌, map, map_append}
+use mathlib.Core.List.{List, [], ◌∷◌, map, map-append}
 use Prim.Native.Nat.{ℕ, zero, suc}
 use Rattle.std.proofs.Math.IntN.{ℤ}
 use Rattle.terms.specs.Tests.{count}
@@ -26,8 +26,8 @@ module _ (k : ℕ) (at : ℕ → ℕ → ℤ) (test : Box → Bool) (answers : (
       let s : ℕ = axis k j in
       let v : ℤ = at (node run) s in
       rw (
-        map_append test (boxes f k at (suc j) (lefts run) (left_box b s v)),
-        map_append test (boxes f k at (suc j) (lefts run) (left_box c s v)),
+        map-append test (boxes f k at (suc j) (lefts run) (left_box b s v)),
+        map-append test (boxes f k at (suc j) (lefts run) (left_box c s v)),
         tests_alike f (suc j) (lefts run) (left_alike same s v),
         tests_alike f (suc j) (rights run) (right_alike same s v),
         answers b c same,

@@ -1,7 +1,7 @@
 -- The branches of a run: how the list splits at the run's own, that it has the branch boxes in slot order, and where each branch stands.
 use Rattle.std.specs.Prelude.{◌≡◌, refl, List, [], ◌∷◌, ◌++◌, map, ℕ, zero, suc, ◌+◌, ◌-◌, ◌≤◌, ◌<◌, length, get_or, ℤ}
 use Rattle.std.proofs.Common.{sym, ap, ◌∙◌, not-suc-le-zero, arith, get_or-append-add}
-use Rattle.std.proofs.lemmas.List.{map_append, length-map, get_or_at}
+use Rattle.std.proofs.lemmas.List.{map-append, length-map, get_or_at}
 use Rattle.std.proofs.Math.ListN.{get_or-append}
 use Rattle.terms.specs.Run.{middle, axis, node, lefts, rights}
 use Rattle.terms.specs.Box.{Box, left_box, right_box, root_box, boxes, shelf_boxes}
@@ -42,7 +42,7 @@ branches_boxes zero k at a j run b = refl
 branches_boxes (suc f) k at a j [] b = refl
 branches_boxes (suc f) k at a j (x ∷ xs) b =
     let run : List ℕ = x ∷ xs in
-    map_append (λ (c : Branch). c.box) (left_branches f k at a j run b) _
+    map-append (λ (c : Branch). c.box) (left_branches f k at a j run b) _
     ∙ rw (
       branches_boxes f k at a (suc j) (lefts run) (left_of k at j run b),
       branches_boxes f k at (a + (middle (length run) + 1)) (suc j) (rights run) (right_of k at j run b),

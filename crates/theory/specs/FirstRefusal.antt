@@ -33,8 +33,8 @@ one_more true c rs answer l w = record {
 one_more false c rs answer l w = record {
   found = λ n.
       let p = w.found n in
-      (suc p.0, p.1, p.2, λ j. elim j [ zero ↦ λ m. refl | suc j ↦ λ m. p.3 j (omega arith) ]);
-  done = λ z. record { fails = λ i. elim i [ zero ↦ refl | suc i ↦ (w.done z).fails i ] };
+      (suc p.0, p.1, p.2, λ j. elim j as (λ t. t < suc p.0 → (get_or (record { number = c; holds = false } ∷ rs) t none).holds ≡ false) [ zero ↦ λ m. refl | suc j ↦ λ m. p.3 j (omega arith) ]);
+  done = λ z. record { fails = λ i. elim i as (λ t. (get_or (record { number = c; holds = false } ∷ rs) t none).holds ≡ false) [ zero ↦ refl | suc i ↦ (w.done z).fails i ] };
 }
 
 pub first_held : (rs : List Refusal) → no_zero rs ≡ true → FirstHeld rs (first_of rs)
@@ -49,17 +49,19 @@ pub passed_parts : (xs ys : List Refusal) → Passed (xs ++ ys) → Passed xs ×
 passed_parts [] ys w = (record { fails = λ i. refl }, w)
 passed_parts (x ∷ xs) ys w =
     let ih : Passed xs × Passed ys = passed_parts xs ys (record { fails = λ i. w.fails (suc i) }) in
-    (record { fails = λ i. elim i [ zero ↦ w.fails 0 | suc i ↦ ih.0.fails i ] }, ih.1)
+    (record { fails = λ i. elim i as (λ t. (get_or (x ∷ xs) t none).holds ≡ false) [ zero ↦ w.fails 0 | suc i ↦ ih.0.fails i ] }, ih.1)
 
 pub passed_join : (xs ys : List Refusal) → Passed xs → Passed ys → Passed (xs ++ ys)
 passed_join [] ys v w = w
 passed_join (x ∷ xs) ys v w =
     let ih : Passed (xs ++ ys) = passed_join xs ys (record { fails = λ i. v.fails (suc i) }) w in
-    record { fails = λ i. elim i [ zero ↦ v.fails 0 | suc i ↦ ih.fails i ] }
+    record { fails = λ i. elim i as (λ t. (get_or ((x ∷ xs) ++ ys) t none).holds ≡ false) [ zero ↦ v.fails 0 | suc i ↦ ih.fails i ] }
 
 -- One test more that does not hold.
 pub passed_next : {number : ℕ} {holds : Bool} {rs : List Refusal} → holds ≡ false → Passed rs → Passed (record { number = number; holds = holds } ∷ rs)
-passed_next e w = record { fails = λ i. elim i [ zero ↦ e | suc i ↦ w.fails i ] }
+passed_next {number} {holds} {rs} e w = record {
+  fails = λ i. elim i as (λ t. (get_or (record { number = number; holds = holds } ∷ rs) t none).holds ≡ false) [ zero ↦ e | suc i ↦ w.fails i ];
+}
 
 pub passed_none : Passed []
 passed_none = record { fails = λ i. refl }

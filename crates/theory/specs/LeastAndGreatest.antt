@@ -37,12 +37,12 @@ module _ {choose : ℤ → ℤ → ℤ} {from : (ℕ → ℤ) → ℤ → List �
   module _ (P : ℤ → Type 0) (left : (a b : ℤ) → P a → P (choose a b)) (right : (a b : ℤ) → P b → P (choose a b)) where
     carried_from_first : (first : ℤ) (run : List ℕ) → P first → P (from value first run)
     carried_from_first first [] p = rw (c.none value first) p
-    carried_from_first first (q ∷ run) p = rw (c.more value first q run) (carried_from_first _ run (left first (value q) p))
+    carried_from_first first (q ∷ run) p = rw (c.more value first q run) (carried_from_first (choose first (value q)) run (left first (value q) p))
 
     carried_from_each : (first : ℤ) (run : List ℕ) (i : ℕ) → i < length run → P (value (get_or run i 0)) → P (from value first run)
     carried_from_each first [] i l p = absurd (not-suc-le-zero l)
-    carried_from_each first (q ∷ run) zero l p = rw (c.more value first q run) (carried_from_first _ run (right first (value q) p))
-    carried_from_each first (q ∷ run) (suc i) l p = rw (c.more value first q run) (carried_from_each _ run i (le_of_suc-le-suc l) p)
+    carried_from_each first (q ∷ run) zero l p = rw (c.more value first q run) (carried_from_first (choose first (value q)) run (right first (value q) p))
+    carried_from_each first (q ∷ run) (suc i) l p = rw (c.more value first q run) (carried_from_each (choose first (value q)) run i (le_of_suc-le-suc l) p)
 
 -- What is at least a value of two is at least their lesser; what is at most one is at most their greater.
 lesser_from_left : (c a b : ℤ) → a ≤ℤ c → lesser a b ≤ℤ c

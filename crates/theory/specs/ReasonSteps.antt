@@ -2,7 +2,7 @@
 -- corners give the same, and in which branch of an open run a number stands.
 use Rattle.std.specs.Prelude.{◌≡◌, true, false, cond, not, ◌⊎◌, ◌≢◌, length, ℤ, eqb}
 use Rattle.std.proofs.Math.Path.{refl}
-use Rattle.std.proofs.Common.{sym, ap, ◌∙◌, inl, inr, ⊎_elim, not-suc-le-zero, zero_add, arith}
+use Rattle.std.proofs.Common.{sym, ap, ◌∙◌, inl, inr, ⊎_elim, not-suc-le-zero, zero-add, arith}
 use mathlib.Core.List.{List, [], ◌∷◌}
 use Prim.Native.Nat.{ℕ, zero, suc, ◌+◌, ◌-◌, ◌%◌, ◌<◌}
 use Rattle.std.proofs.Math.Nat.{suc-mod}
@@ -57,7 +57,7 @@ reason_no_faces g at (x ∷ xs) p none some =
     let root : Box = root_box at (x ∷ xs) in
     reason_step (length xs) g at p 0 0 (x ∷ xs) root some
     ∙ branch_above g (at p) root _ _ (none_lowest g.h (wholly_below g root) (λ i l. absurd (omega arith))) (λ e l. absurd (omega arith))
-    ∙ ap InsideWithBranch (zero_add (middle (length (x ∷ xs))))
+    ∙ ap InsideWithBranch (zero-add (middle (length (x ∷ xs))))
 
 pub reason_depth : (f : ℕ) (g : Region) (at : ℕ → ℕ → ℤ) (p a i j : ℕ) (run : List ℕ) (b : Box) → axis g.k i ≡ axis g.k j
     → reason_in f g at p a i run b ≡ reason_in f g at p a j run b

@@ -2,7 +2,7 @@
 -- own test" exactly where the number's own slot is open. What the relation says of the branches that hold the slot, and what is read off the way, are the same.
 use Rattle.std.specs.Prelude.{◌≡◌, refl, Bool, true, false, ℕ, zero, suc, ◌+◌, ◌-◌, ◌≤◌, ◌<◌, length, ℤ, eqb}
 use Rattle.std.proofs.Math.Path.{sym, ap}
-use Rattle.std.proofs.Common.{subst, ◌∙◌, not-suc-le-zero, le_of_suc-le-suc, zero_add, arith, eqb-true, eq-eqb, ne_eqb}
+use Rattle.std.proofs.Common.{subst, ◌∙◌, not-suc-le-zero, le_of_suc-le-suc, zero-add, arith, eqb-true, eq-eqb, ne_eqb}
 use mathlib.Core.List.{List, [], ◌∷◌, map}
 use Rattle.std.proofs.Math.ListN.{get_or}
 use Rattle.terms.specs.declared.Reason.{Reason}
@@ -232,7 +232,7 @@ module _ (g : Region) (at : ℕ → ℕ → ℤ) (run : List ℕ) (tree : tree_r
     -- "The branches from the root to the picture's slot" are all those that hold the slot.
     pub shelf_way : WayTold g.k (at p) own bs 0 i 0 w
     shelf_way =
-        rw (zero_add i) at
+        rw (zero-add i) at
         (way_told (length run) (length run) g.k at p 0 0 run (root_box at run) i tree (held_root g.k at run) st.known st.number (omega arith)).told
 
     each_holds : EachHolds g.k (at p) w
@@ -241,7 +241,7 @@ module _ (g : Region) (at : ℕ → ℕ → ℤ) (run : List ℕ) (tree : tree_r
     computed : reason_of g at run p ≡ reason_on g (at p) i w
     unfolding reason_of
     computed =
-        rw (zero_add i) at
+        rw (zero-add i) at
         (reason_way (length run) (length run) g at p 0 0 run (root_box at run) i tree st.known st.number (omega arith))
 
     -- "Prove that the reason given is the true one."

@@ -1,6 +1,6 @@
 -- The rising numbers a, a + 1 and so on, and those of 0 to m - 1 that belong: their places and their counts.
 use Rattle.std.specs.Prelude.{◌≡◌, refl, Bool, true, false, ◌&&◌, not, List, [], ◌∷◌, ◌++◌, ℕ, zero, suc, ◌+◌, ◌-◌, ◌≤◌, ◌<◌, length, get_or, eqb, ltb}
-use Rattle.std.proofs.Common.{sym, ap, ◌∙◌, append-nil, not-suc-le-zero, le_of_suc-le-suc, add_zero, arith, length-append, eqb-true, ltb-true, ltb-false, lt-ltb, le-ltb}
+use Rattle.std.proofs.Common.{sym, ap, ◌∙◌, append-nil, not-suc-le-zero, le_of_suc-le-suc, add-zero, arith, length-append, eqb-true, ltb-true, ltb-false, lt-ltb, le-ltb}
 use Rattle.std.proofs.lemmas.Bool.{eqb-false}
 use Rattle.whole.specs.IndexedTotal.{total_to, total_front, total_same}
 use Rattle.terms.specs.Tests.{bit, count, every, keep, pick, rising}
@@ -47,7 +47,7 @@ count_rising test a (suc c) = omega (
   count_rising test (suc a) c,
   total_front c (λ i. bit (test (a + i))),
   total_same c (λ i. bit (test (suc a + i))) (λ i. bit (test (a + suc i))) (λ i l. ap (λ (v : ℕ). bit (test v)) (omega arith)),
-  ap (λ (v : ℕ). bit (test v)) (add_zero a),
+  ap (λ (v : ℕ). bit (test v)) (add-zero a),
 )
 
 pub count_to : (test : ℕ → Bool) (m : ℕ) → count test (rising 0 m) ≡ total_to m (λ i. bit (test i))

@@ -2,7 +2,7 @@
 use mathlib.Core.Path.{◌≡◌, refl, sym, ap, ◌∙◌}
 use mathlib.Core.Logic.{⊎_elim}
 use Prim.Native.Nat.{ℕ, ◌+◌, ◌-◌, ◌≤◌, ◌<◌}
-use native.Mathlib.Nat.{add_zero}
+use native.Mathlib.Nat.{add-zero}
 use native.Mathlib.Omega.{arith}
 use lib.ListN.{length, get_or}
 use borrow.Author.Tests.{le-leb, lt-leb, eq-eqb, ne_eqb}
@@ -49,7 +49,7 @@ loop-again c =
     c.before.if1.branch in
     let many : c.if2.count ≡ l.count + bit (is_set b) = ⊎_elim
     (λ z. z.1 ∙ ap (λ (n : ℕ). l.count + n) (sym (ap bit (eq-eqb b 1 z.0.taken))))
-    (λ z. z.1 ∙ sym (ap (λ (n : ℕ). l.count + n) (ap bit (ne_eqb b 1 z.0.left)) ∙ add_zero l.count))
+    (λ z. z.1 ∙ sym (ap (λ (n : ℕ). l.count + n) (ap bit (ne_eqb b 1 z.0.left)) ∙ add-zero l.count))
     c.if2.branch in
     (omega arith, omega (arith, many, bit_le (is_set b)), counted_more w here t many)
 
