@@ -7,7 +7,7 @@ use region::boxes::{left_box, right_box};
 use terms::CornerRows;
 
 // A branch: where its run of slots starts and how long it is, the dimension on which its node splits, and its box.
-#[derive(Drop)]
+#[derive(Clone, Copy)]
 pub struct Run {
     pub start: usize,
     pub length: usize,

@@ -8,7 +8,7 @@ ghost use Rattle.hornherder.specs.Live.{Counted, LivePoints};
 use crate::ranges::all_within;
 
 // What one pass finds of the live bytes: whether each is 0 or 1, and how many are 1.
-#[derive(Drop)]
+#[derive(Clone, Copy)]
 pub struct LiveBytes {
     pub all: bool,
     pub live: u32,

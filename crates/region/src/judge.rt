@@ -11,7 +11,7 @@ use crate::boxes::{wholly_above, wholly_below};
 use terms::CornerRows;
 
 // What a box is found to be: wholly below a face, and this is the lowest; wholly above all; or open, and so many faces are left.
-#[derive(Drop)]
+#[derive(Clone, Copy)]
 pub enum Judgement {
     Below(usize),
     Above,

@@ -10,7 +10,7 @@ ghost use Rattle.region.specs.Measured.{MeasuredAs, Leads, Trails};
 use crate::faces::{above, margin, normal_at, sum};
 
 // What is measured of a point. With no faces it is inside, and face and margin are 0.
-#[derive(Drop)]
+#[derive(Clone, Copy)]
 pub struct Measured {
     pub inside: bool,
     pub face: usize,

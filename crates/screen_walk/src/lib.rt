@@ -18,7 +18,7 @@ use region::live::all_faces;
 use terms::CornerRows;
 
 // What a screen has seen so far: whether it found a number, which, and how many nodes it visited.
-#[derive(Drop)]
+#[derive(Clone, Copy)]
 pub struct Seen {
     pub found: bool,
     pub number: u32,

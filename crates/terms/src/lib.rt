@@ -4,14 +4,14 @@
 pub mod axis;
 
 // A box: its least and its greatest coordinate in each dimension. Places from k on mean nothing.
-#[derive(Drop)]
+#[derive(Clone, Copy)]
 pub struct CornerRows {
     pub low: [i32; 4],
     pub high: [i32; 4],
 }
 
 // A colour: its three floats.
-#[derive(Drop)]
+#[derive(Clone, Copy)]
 pub struct Colour {
     pub first: f32,
     pub second: f32,
@@ -19,7 +19,7 @@ pub struct Colour {
 }
 
 // A reading: a colour, a grey of one value, or nothing measured.
-#[derive(Drop)]
+#[derive(Clone, Copy)]
 pub enum Reading {
     Colour(Colour),
     Grey(f32),
@@ -27,7 +27,7 @@ pub enum Reading {
 }
 
 // The three numbers of a point that a reading becomes.
-#[derive(Drop)]
+#[derive(Clone, Copy)]
 pub struct Triple {
     pub first: i32,
     pub second: i32,
@@ -35,7 +35,7 @@ pub struct Triple {
 }
 
 // What a reading gives: a point, no point where nothing was measured, or a value that is not finite or out of range.
-#[derive(Drop)]
+#[derive(Clone, Copy)]
 pub enum Given {
     Point(Triple),
     NoPoint,
@@ -44,7 +44,7 @@ pub enum Given {
 
 // Why a number is inside or outside: settled with a whole branch, or by its own test. The slot comes first, then, for outside, the face and the margin of
 // the number's point to it.
-#[derive(Drop)]
+#[derive(Clone, Copy)]
 pub enum Reason {
     InsideWithBranch(usize),
     InsideByItself(usize),
@@ -54,7 +54,7 @@ pub enum Reason {
 
 // What a call that makes a point answers: made is 1, or 0 where nothing was measured. A refusal has its number and 0.
 #[repr(C)]
-#[derive(Drop)]
+#[derive(Clone, Copy)]
 pub struct Making {
     pub code: u32,
     pub made: u32,
@@ -62,7 +62,7 @@ pub struct Making {
 
 // What the list call answers. A refusal has its number and zeros.
 #[repr(C)]
-#[derive(Drop)]
+#[derive(Clone, Copy)]
 pub struct Listing {
     pub code: u32,
     pub inside: u32,
@@ -72,7 +72,7 @@ pub struct Listing {
 
 // What the screen call answers: found is 1 or 0, and where it is 0 so is the number. A refusal has its number and zeros.
 #[repr(C)]
-#[derive(Drop)]
+#[derive(Clone, Copy)]
 pub struct Screening {
     pub code: u32,
     pub found: u32,
@@ -83,7 +83,7 @@ pub struct Screening {
 // What the test of one point answers: inside is 1 or 0; measured is 1 where there are faces, with the least margin and the lowest-numbered face that has
 // it, and 0 with zeros where there are none. A refusal has its number and zeros.
 #[repr(C)]
-#[derive(Drop)]
+#[derive(Clone, Copy)]
 pub struct Placing {
     pub code: u32,
     pub inside: u8,
@@ -95,7 +95,7 @@ pub struct Placing {
 // What the explain call answers: the reason is 1 or 2 inside, 3 or 4 outside, 1 and 3 with a whole branch, 2 and 4 by its own test; face and margin are 0
 // for inside. A refusal has its number and zeros.
 #[repr(C)]
-#[derive(Drop)]
+#[derive(Clone, Copy)]
 pub struct Explaining {
     pub code: u32,
     pub reason: u8,
@@ -106,7 +106,7 @@ pub struct Explaining {
 
 // The answer of the arrange call: 1 where the order was the tree already, else 0. A refusal has its number and 0.
 #[repr(C)]
-#[derive(Drop)]
+#[derive(Clone, Copy)]
 pub struct Arranging {
     pub code: u32,
     pub already: u32,
@@ -114,7 +114,7 @@ pub struct Arranging {
 
 // What the take call answers: the number taken. A refusal has its number and 0.
 #[repr(C)]
-#[derive(Drop)]
+#[derive(Clone, Copy)]
 pub struct Taking {
     pub code: u32,
     pub number: u32,

@@ -7,7 +7,7 @@ use crate::blocks::{read_faces, read_points};
 use crate::number::read_size;
 
 // Line 1, if it stands there: how many dimensions, points and faces, and the place behind it.
-#[derive(Drop)]
+#[derive(Clone, Copy)]
 pub struct Head {
     pub ok: bool,
     pub k: usize,

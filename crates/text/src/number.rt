@@ -40,7 +40,7 @@ fn digits_value(text: &[u8], at: usize, e: usize) -> u64
 }
 
 // What stands at a place, if it is a natural number.
-#[derive(Drop)]
+#[derive(Clone, Copy)]
 pub struct Natural {
     pub ok: bool,
     pub value: u64,
@@ -109,7 +109,7 @@ pub fn read_size(text: &[u8], at: usize, stop: u8, least: u64, greatest: u64) ->
 }
 
 // What stands at a place, if it is a number.
-#[derive(Drop)]
+#[derive(Clone, Copy)]
 pub struct Number {
     pub ok: bool,
     pub value: i64,

@@ -7,7 +7,7 @@ ghost use Rattle.text.specs.LineReading.{ReadsLine};
 use crate::number::{NO_NUMBER, Number, read_number};
 
 // Whether a row was read, and the place behind it.
-#[derive(Drop)]
+#[derive(Clone, Copy)]
 pub struct Step {
     pub ok: bool,
     pub next: usize,

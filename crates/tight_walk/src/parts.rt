@@ -18,7 +18,7 @@ use summary::boxes::read_box;
 use walk::Tally;
 
 // A branch: where its run of slots starts and how long it is.
-#[derive(Drop)]
+#[derive(Clone, Copy)]
 pub struct Slots {
     pub start: usize,
     pub length: usize,

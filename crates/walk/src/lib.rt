@@ -19,7 +19,7 @@ use region::live::all_faces;
 use terms::CornerRows;
 
 // How many numbers the list holds in front, and how many nodes were visited. The other numbers of the slots walked so far stand behind.
-#[derive(Drop)]
+#[derive(Clone, Copy)]
 pub struct Tally {
     pub inside: usize,
     pub visits: usize,
