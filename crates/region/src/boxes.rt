@@ -23,8 +23,8 @@ fn by_sign(component: i32, first: i32, second: i32) -> i32
 // The sum of products at the corner of a box that a face's signs choose, added up from the box's rows: in each dimension the first row where the
 // component is 0 or more, else the second. With the rows low and high it is the corner furthest against the normal, with high and low the opposite one.
 pub fn corner_sum(k: usize, first: [i32; 4], second: [i32; 4], row: [i32; 4]) -> i64
-    requires coordinates { Coordinates k (lone first) }
-    requires coordinates_2 { Coordinates k (lone second) }
+    requires first_coordinates { Coordinates k (lone first) }
+    requires second_coordinates { Coordinates k (lone second) }
     requires normal { Normal k (lone row) }
     ensures { result ≡ sum_to k (products (lone row) (corner (lone first) (lone second) (lone row))) }
 {

@@ -1,0 +1,10 @@
+-- `table_of` meets its contract. After i turns the first i rows stand in the table, by four stores more each turn.
+use Prim.Native.Nat.{◌*◌, ◌≤◌, ◌-◌}
+use Rattle.region.specs.Table.{TabledTo}
+use Rattle.region.proofs.faces.table_of.Given as goal
+
+abbrev pub invariant-loop-i : goal.invariant-loop-i
+invariant-loop-i l = (l.i ≤ l.h) × TabledTo l.k l.normals (l.i * 4) l.table
+
+abbrev pub decreases-loop-i : goal.decreases-loop-i
+decreases-loop-i l = l.h - l.i
