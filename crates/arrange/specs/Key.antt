@@ -89,7 +89,7 @@ above_zero (negsuc n) h = absurd h.le
 
 pub lifts : (z : ℤ) → Between (negsuc 32767) z (pos 32767) → Lifts z
 lifts z b =
-    let read : to_z w32 (of_z w32 z) ≡ z = to_z-of_z (sfits_abs (omega (ints, abs_parts z))) in
+    let read : to_z w32 (of_z w32 z) ≡ z = to_z-of_z {w = w32} (sfits_abs (omega (ints, abs_parts z))) in
     let sum : SFits w32 (z +ℤ pos 32768) = sfits_abs (omega (arith, lifted_small z b)) in
     record {
       fits = rw read sum;
