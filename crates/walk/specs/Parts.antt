@@ -1,6 +1,6 @@
 -- What the node part and the branch part ask of a branch and what they do with it: of an empty one, a settled one, a node alone, and an open one, whose two
 -- branches can be walked in turn.
-use Rattle.std.specs.Prelude.{◌≡◌, true, false, List, ℕ, ◌+◌, ◌-◌, ◌/◌, ◌≤◌, ◌<◌, length, ℤ}
+use Rattle.std.specs.Prelude.{◌≡◌, true, List, ℕ, ◌+◌, ◌-◌, ◌/◌, ◌≤◌, ◌<◌, length, ℤ}
 use Rattle.std.proofs.Common.{arith}
 use Rattle.std.proofs.Math.Seq.{paste}
 use Rattle.terms.specs.Tests.{count}
