@@ -1,12 +1,12 @@
 -- What the screen of a run of slots finds: the first of the run's numbers that are inside, or none, and the open ones of the boxes of its slots up to that one.
 -- A settled branch gives its first slot or none, and no slot of it is open. An open one is its left branch; where that has none, its own number; where that is
 -- outside, its right branch. So its own box counts only where the left branch has none.
-use Rattle.std.specs.Prelude.{◌≡◌, Bool, true, false, List, [], ◌∷◌, ◌++◌, map, ℕ, suc, ◌+◌, ◌≤◌, length, take, ℤ}
+use Rattle.std.specs.Prelude.{◌≡◌, Bool, true, false, List, [], ◌∷◌, ◌++◌, map, ℕ, ◌+◌, length, take, ℤ}
 use Rattle.std.proofs.Math.Path.{refl}
-use Rattle.std.proofs.Common.{ap, sym, ◌∙◌, arith}
+use Rattle.std.proofs.Common.{ap, ◌∙◌, arith}
 use Rattle.std.proofs.lemmas.List.{length-map, take-append-le}
 use Rattle.std.proofs.Math.Seq.{take-append-add, take-length}
-use Rattle.terms.specs.Tests.{bit, count, keep, pick}
+use Rattle.terms.specs.Tests.{count, keep}
 use Rattle.terms.specs.Box.{Box}
 use Rattle.terms.specs.Region.{Region, inside, is_open}
 use Rattle.terms.specs.Lists.{insides}
@@ -75,14 +75,14 @@ module _ (g : Region) (at : ℕ → ℕ → ℤ) (left : List ℕ) (p : ℕ) (ri
   kept_past : insides g at left ≡ [] → insides g at (left ++ p ∷ right) ≡ keep test (p ∷ right)
   kept_past e = keep_append test left (p ∷ right) ∙ ap (λ (ps : List ℕ). ps ++ keep test (p ∷ right)) e
 
-  module _ {u v : ℕ} (is_open : is_open g b ≡ true) (none : insides g at left ≡ []) (seen : v ≡ u + count (is_open g) lefts) where
+  module _ {u v : ℕ} (own_open : is_open g b ≡ true) (none : insides g at left ≡ []) (seen : v ≡ u + count (is_open g) lefts) where
     -- Its own number is inside: its own visit is the last.
     pub screened_own : test p ≡ true → Screened g at (left ++ p ∷ right) (lefts ++ b ∷ rights) u true p (v + 1)
     unfolding up_to_first count keep
     screened_own e = record {
       none = λ z. clash refl z;
       one = λ z. (keep test right, kept_past none ∙ rw e refl);
-      visits = let all = rw (e, is_open) at (past none) in omega (arith, all);
+      visits = let all = rw (e, own_open) at (past none) in omega (arith, all);
     }
 
     -- It is outside: the right branch has the answer.
@@ -94,5 +94,5 @@ module _ (g : Region) (at : ℕ → ℕ → ℤ) (left : List ℕ) (p : ℕ) (ri
         record {
           none = λ z. kept ∙ w.none z;
           one = λ z. let (rest, h) = w.one z in (rest, kept ∙ h);
-          visits = let all = rw (e, is_open) at (past none) in omega (arith, all, w.visits);
+          visits = let all = rw (e, own_open) at (past none) in omega (arith, all, w.visits);
         }

@@ -1,5 +1,5 @@
 -- The screen of a whole shelf: the root is a branch of all slots that splits on dimension 0, in the root box, and what its screen finds is what the words say of the shelf.
-use Rattle.std.specs.Prelude.{◌≡◌, refl, Bool, true, false, List, [], ◌∷◌, map, ℕ, ◌≤◌, ◌<◌, length, take, ℤ}
+use Rattle.std.specs.Prelude.{◌≡◌, refl, Bool, true, false, List, [], ◌∷◌, map, ℕ, ◌<◌, length, take, ℤ}
 use Rattle.std.proofs.Common.{sym, ◌∙◌, arith}
 use Rattle.std.proofs.Math.Path.{ap}
 use Rattle.std.proofs.Math.Seq.{take-length}
