@@ -11,7 +11,6 @@ use Rattle.terms.specs.Lent.{Stock, Order, Faces}
 use Rattle.terms.specs.Points.{point_of, slots_of}
 use Rattle.terms.specs.Tree.{shelf_run, is_shelf}
 use Rattle.terms.specs.Region.{region}
-use Rattle.terms.specs.Visits.{visits}
 use Rattle.terms.specs.Lists.{insides}
 use Rattle.terms.specs.Screen.{has_first, first, screen_visits}
 use Rattle.terms.specs.Refusals.{if_done}

@@ -1,0 +1,24 @@
+-- The two comparisons are the two parts of the test of the group, the other way round.
+use mathlib.Core.Path.{◌∙◌}
+use native.Mathlib.Omega.{arith}
+use borrow.Author.Tests.{le-ltb, eq-eqb, ne_eqb}
+use Rattle.terms.specs.Live.{is_live}
+use Rattle.theory.specs.Flags.{true_not, false_not}
+use Rattle.theory.specs.LiveNumbers.{live_byte}
+use Rattle.hornherder.specs.First.{first_none, first_holds, first_passes}
+use Rattle.hornherder.proofs.refuse.dead_refusal.Goals as goal
+
+pub returns-then-n-p : goal.returns-then-n-p
+returns-then-n-p c =
+    let a = c.args in
+    first_holds (true_not {t = is_live a.n a.live.now a.number} (rw (le-ltb a.number a.n c.if-n-p.true)))
+
+pub returns-then-live-p-ne1 : goal.returns-then-live-p-ne1
+returns-then-live-p-ne1 c =
+    let a = c.args in
+    first_holds (true_not (live_byte a.n a.live.now a.number (omega arith) ∙ ne_eqb _ 1 c.if-live-p-ne1.true))
+
+pub returns : goal.returns
+returns c =
+    let a = c.args in
+    first_passes (false_not (live_byte a.n a.live.now a.number (omega arith) ∙ eq-eqb _ 1 c.if-live-p-ne1.false)) first_none

@@ -1,0 +1,12 @@
+-- The comparison is the test of the group.
+use mathlib.Core.Path.{ap}
+use mathlib.Core.Bool.{not}
+use borrow.Author.Tests.{eq-eqb, ne_eqb}
+use Rattle.hornherder.specs.First.{first_none, first_holds, first_passes}
+use Rattle.hornherder.proofs.refuse.length_refusal.Goals as goal
+
+pub returns-then-points-size : goal.returns-then-points-size
+returns-then-points-size c = first_holds (ap not (ne_eqb _ _ c.if-points-size.true))
+
+pub returns : goal.returns
+returns c = first_passes (ap not (eq-eqb _ _ c.if-points-size.false)) first_none
