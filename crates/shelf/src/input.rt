@@ -1,7 +1,7 @@
-// Reading standard input in pieces as they come.
+// Reading the input in pieces as they come.
 ghost use Rattle.std.specs.Prelude.{◌≡◌, false, ◌+◌, ◌≤◌, ◌<◌, length, take};
 
-use libc::STDIN_FILENO;
+use std::io::Read;
 
 // What one read gave: whether it failed, and how many bytes it put.
 #[derive(Drop)]
@@ -19,35 +19,34 @@ pub struct Taken {
 }
 
 // Makes one read into the places from `done` on. Those before it stay as they are.
-fn take_piece(text: &mut [u8], done: usize) -> Piece
+fn take_piece<R: Read>(input: &mut R, text: &mut [u8], done: usize) -> Piece
     requires { done ≤ length text.old }
     ensures count_in_bounds { done + result.count ≤ length text.old }
     ensures text_unchanged { take done text.new ≡ take done text.old }
 {
     let rest = &mut text[done..];
-    let got = libc::read(STDIN_FILENO, rest);
-    if got < 0 {
-        return Piece {
+    match input.read(rest) {
+        Ok(count) => Piece {
+            failed: false,
+            count,
+        },
+        Err(_) => Piece {
             failed: true,
             count: 0,
-        };
-    }
-    Piece {
-        failed: false,
-        count: io::count(got, rest),
+        },
     }
 }
 
 // Reads until the text is full or a read gives nothing, which is how the input ends. A text that fills all places is longer than any that is
 // allowed.
-pub fn take_input(text: &mut [u8]) -> Taken
+pub fn take_input<R: Read>(input: &mut R, text: &mut [u8]) -> Taken
     ensures count_in_bounds { result.count ≤ length text.old }
     ensures last_value { result.failed ≡ false → result.count < length text.old → result.last ≡ 0 }
 {
     let mut done: usize = 0;
     let mut last: usize = 0;
     while done < text.len() {
-        let piece = take_piece(text, done);
+        let piece = take_piece(input, text, done);
         if piece.failed {
             return Taken {
                 failed: true,

@@ -6,17 +6,19 @@ mod input;
 
 use answer::answer;
 use input::take_input;
-use libc::{STDERR_FILENO, STDOUT_FILENO};
+use std::io;
+use std::io::Write;
 
-fn main() {
+fn main(rt: HostRuntime) -> io::Result<()> {
     let mut text = [0u8; 32769];
-    let taken = take_input(&mut text);
+    let taken = take_input(&mut rt.stdin(), &mut text);
     if taken.failed {
-        io::write_all(STDERR_FILENO, b"shelf: standard input cannot be read\n");
-        return;
+        return rt
+            .stderr()
+            .write_all(b"shelf: standard input cannot be read\n");
     }
     let mut out = [0u8; 16384];
     let count = taken.count;
     let written = answer(&text[0..count], &mut out);
-    io::write_all(STDOUT_FILENO, &out[0..written]);
+    rt.stdout().write_all(&out[0..written])
 }
