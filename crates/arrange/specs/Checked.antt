@@ -16,7 +16,7 @@ use Rattle.theory.specs.Counting.{every_at, at_every, every_same, every_part}
 use Rattle.theory.specs.Tested.{TestedPoints}
 use Rattle.theory.specs.LiveNumbers.{full_live}
 use Rattle.theory.specs.StockNumbers.{stock_under, stock_members}
-use Rattle.theory.specs.TreeIsDistinct.{tree_test}
+use Rattle.theory.proofs.TreeIsDistinct.{tree_test}
 use Rattle.arrange.specs.Key.{key_of, Keyed, stock_keyed, key_small, key_number, before_key}
 use Rattle.arrange.specs.Allowed.{is_allowed, all_three, each_of_three, allowed, of_allowed, Ordered}
 use Rattle.arrange.specs.Descent.{is_branch, two_slots, three_slots, two_branches}

@@ -4,8 +4,9 @@ use Rattle.std.specs.Prelude.{◌≡◌, refl, Bool, true, false, ◌&&◌, ◌|
 use Rattle.std.proofs.Common.{sym, arith, lt-ltb, le-ltb, ltb-true, SFits, to_z, of_z, to_z-of_z}
 use Rattle.std.specs.Int.Signed.{lt_z, le_z, non_neg}
 use Rattle.std.specs.Int.{w32}
-use Rattle.whole.specs.Parts.{up, dn, ints, flags, sum_parts, abs_parts}
-use Rattle.whole.specs.Fits.{sfits_abs}
+use Rattle.whole.specs.Parts.{up, dn}
+use Rattle.whole.proofs.Parts.{ints, flags, sum_parts, abs_parts}
+use Rattle.whole.proofs.Fits.{sfits_abs}
 use Rattle.terms.specs.Lent.{Stock}
 use Rattle.terms.specs.Points.{coord, belongs_to}
 use Rattle.terms.specs.Before.{before}

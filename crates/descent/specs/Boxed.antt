@@ -4,7 +4,8 @@ use Rattle.std.proofs.Common.{mod-eq_of_lt}
 use Rattle.terms.specs.Points.{coord}
 use Rattle.terms.specs.Box.{Box, left_box, right_box}
 use Rattle.theory.specs.Boxes.{In, Held}
-use Rattle.theory.specs.BoxLaws.{held_node, held_left, held_right}
+use Rattle.theory.specs.BoxLaws.{held_node}
+use Rattle.theory.proofs.BoxLaws.{held_left, held_right}
 use Rattle.region.specs.Ranges.{BoxRanges, left_ranges, right_ranges}
 use Rattle.descent.specs.Slots.{run_of, own_of, run_length, run_node, run_lefts, run_rights}
 use Rattle.descent.specs.Standing.{Standing, own_range, standing_parts}

@@ -5,7 +5,8 @@ use Rattle.std.proofs.Common.{sym, ap, ◌∙◌, ⊎_elim, not-suc-le-zero, mod
 use Rattle.std.proofs.Math.Nat.{mul-add-mod_self_right}
 use Rattle.std.proofs.lemmas.List.{length-replicate, get_or-replicate}
 use Rattle.whole.specs.Order.{lesser, greater}
-use Rattle.whole.specs.Choices.{AtLeast, Choice, least_choice, greatest_choice}
+use Rattle.whole.specs.Choices.{AtLeast, Choice}
+use Rattle.whole.proofs.Choices.{least_choice, greatest_choice}
 use Rattle.terms.specs.Tests.{rising}
 use Rattle.terms.specs.Points.{coord, lone}
 use Rattle.theory.specs.Stores.{stored}

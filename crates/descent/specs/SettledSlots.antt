@@ -4,7 +4,7 @@ use Rattle.terms.specs.Tests.{count}
 use Rattle.terms.specs.Points.{coord}
 use Rattle.terms.specs.Box.{Box}
 use Rattle.terms.specs.Region.{Region, is_open}
-use Rattle.theory.specs.Nesting.{settled_none_open}
+use Rattle.theory.proofs.Nesting.{settled_none_open}
 use Rattle.descent.specs.Slots.{run_of}
 use Rattle.descent.specs.Standing.{Standing}
 use Rattle.descent.specs.Boxed.{Boxed}

@@ -4,7 +4,8 @@ use Rattle.std.specs.Prelude.{◌≡◌, refl, List, ℕ, ◌+◌, ◌≤◌, �
 use Rattle.std.proofs.Common.{◌∙◌, not-suc-le-zero, arith, length-set, get_or-set_other, below_more}
 use Rattle.std.proofs.lemmas.List.{get_or-replicate}
 use Rattle.whole.specs.Order.{lesser, greater}
-use Rattle.whole.specs.Choices.{AtLeast, Choice, least_choice, greatest_choice}
+use Rattle.whole.specs.Choices.{AtLeast, Choice}
+use Rattle.whole.proofs.Choices.{least_choice, greatest_choice}
 use Rattle.terms.specs.Points.{coord, lone}
 use Rattle.terms.specs.Box.{Box, root_box}
 use Rattle.theory.specs.Stores.{store_next}

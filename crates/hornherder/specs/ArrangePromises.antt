@@ -8,7 +8,7 @@ use Rattle.terms.specs.Lent.{Stock, Order}
 use Rattle.terms.specs.Points.{belongs_to, slots_of}
 use Rattle.terms.specs.Tree.{shelf_run, is_shelf}
 use Rattle.terms.specs.ArrangeCall.{arrange_refusals, arrange_code, arrange_answer, ArrangedAs}
-use Rattle.theory.specs.UniqueOrder.{one_shelf}
+use Rattle.theory.proofs.UniqueOrder.{one_shelf}
 use Rattle.theory.specs.FirstRefusal.{FirstHeld, if_refused}
 use Rattle.theory.specs.NeverRefused.{never_answered, arrange_never_nine}
 use Rattle.theory.specs.ArrangeCall.{
@@ -19,10 +19,8 @@ use Rattle.theory.specs.ArrangeCall.{
   holding_no_shelf,
   arrange_code_reads,
   arrange_reads,
-  arranged_same,
-  arranged_kept,
-  arranged_once,
 }
+use Rattle.theory.proofs.ArrangeCall.{arranged_same, arranged_kept, arranged_once}
 
 module _ {s : Stock} {o : Order} {a : Arranging} {x : Order} (e : ArrangedAs s o a x) where
   -- Two outcomes that satisfy the contract are equal.

@@ -21,7 +21,6 @@ use Rattle.theory.specs.StockNumbers.{stock_full}
 use Rattle.theory.specs.PointsInRange.{full_in_range}
 use Rattle.theory.specs.MembersAlike.{MembersAlike}
 use Rattle.theory.specs.DeadCoordinates.{
-  arranged_alike,
   list_answer_alike,
   list_after_alike,
   screen_answer_alike,
@@ -30,6 +29,7 @@ use Rattle.theory.specs.DeadCoordinates.{
   lists_after_alike,
   counts_after_alike,
 }
+use Rattle.theory.proofs.DeadCoordinates.{arranged_alike}
 
 module _ (k n : ℕ) (live : List ℕ) {points others : List ℤ} (w : MembersAlike k (is_live n live) points others) (o : Order) where
   abbrev s : Stock

@@ -12,8 +12,10 @@ use Rattle.terms.specs.Explain.{reason_of}
 use Rattle.terms.specs.ExplainCall.{explain_refusals, explaining, explain_code, explain_answer}
 use Rattle.theory.specs.FirstRefusal.{if_refused}
 use Rattle.theory.specs.StockNumbers.{stock_few}
-use Rattle.theory.specs.Reasons.{Named, named_more, tree_run_lem, because_named}
-use Rattle.theory.specs.ExplainCall.{ExplainPassed, explain_passed, picture_reason}
+use Rattle.theory.specs.Reasons.{Named}
+use Rattle.theory.proofs.Reasons.{named_more, tree_run_lem, because_named}
+use Rattle.theory.specs.ExplainCall.{ExplainPassed, explain_passed}
+use Rattle.theory.proofs.ExplainCall.{picture_reason}
 use Rattle.hornherder.specs.First.{First}
 
 module _ (s : Stock) (o : Order) (f : Faces) (p : ℕ) {c : ℕ} (first : First (explain_refusals s o f p) c) where

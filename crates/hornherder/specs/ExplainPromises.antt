@@ -24,7 +24,8 @@ use Rattle.theory.specs.FirstRefusal.{FirstHeld, if_code, if_refused}
 use Rattle.theory.specs.StockNumbers.{stock_under}
 use Rattle.theory.specs.ListCall.{listed_code, list_inside}
 use Rattle.theory.specs.Margins.{above_by, above_by_margin}
-use Rattle.theory.specs.Reasons.{says_inside, Named, SaidOf, tree_run_lem, reason_because, because_named, because_below, because_inside, because_visited}
+use Rattle.theory.specs.Reasons.{says_inside, Named, SaidOf}
+use Rattle.theory.proofs.Reasons.{tree_run_lem, reason_because, because_named, because_below, because_inside, because_visited}
 use Rattle.theory.specs.ReasonSteps.{reason_no_faces}
 use Rattle.theory.specs.ExplainCall.{
   inside_number,
@@ -38,11 +39,9 @@ use Rattle.theory.specs.ExplainCall.{
   explain_code_is_list_code,
   explain_code_otherwise,
   explain_reads,
-  picture_stands,
-  picture_reason,
-  picture_reason_only,
   explain_nine,
 }
+use Rattle.theory.proofs.ExplainCall.{picture_stands, picture_reason, picture_reason_only}
 
 -- A reason is answered with the number 0.
 no_code : (why : Reason) → (explaining why).code ≡ 0

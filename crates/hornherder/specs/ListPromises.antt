@@ -15,7 +15,7 @@ use Rattle.theory.specs.FirstRefusal.{FirstHeld, if_refused}
 use Rattle.theory.specs.InsideAndOutside.{shelf_lists_length, shelf_places_each}
 use Rattle.theory.specs.ClosedFaces.{closed_list_answer, closed_list_after}
 use Rattle.theory.specs.FaceLentAlone.{face_alone}
-use Rattle.theory.specs.VisitsOfTheListCall.{list_visits_le_faces, list_visits_le_S}
+use Rattle.theory.proofs.VisitsOfTheListCall.{list_visits_le_faces, list_visits_le_S}
 use Rattle.theory.specs.ListCall.{listed_code, list_first, list_passed, list_refused, list_front, list_later, list_answer_reads, list_after_reads, list_nine}
 
 module _ (s : Stock) (o : Order) (f : Faces) (list : List ℕ) where

@@ -3,7 +3,7 @@ use Rattle.std.specs.Prelude.{◌≡◌, ◌≢◌, Bool, true, false, List, ℕ
 use Rattle.std.proofs.Math.Path.{refl, ap}
 use Rattle.std.proofs.Common.{sym, ◌∙◌, arith, ltb-true, ltb-false}
 use Rattle.std.specs.Int.Signed.{le_z}
-use Rattle.whole.specs.Parts.{ints}
+use Rattle.whole.proofs.Parts.{ints}
 use Rattle.terms.specs.declared.Placing.{Placing}
 use Rattle.terms.specs.Lent.{Faces}
 use Rattle.terms.specs.Tests.{bit, keep, all_to, rising}

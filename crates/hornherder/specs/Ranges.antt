@@ -6,7 +6,7 @@ use Rattle.std.proofs.Math.Seq.{take-length}
 use Rattle.std.specs.Int.Signed.{lt_z, le_z}
 use Rattle.std.proofs.lemmas.Bool.{lt-leb}
 use Rattle.std.specs.Int.{Width}
-use Rattle.whole.specs.Parts.{flags}
+use Rattle.whole.proofs.Parts.{flags}
 use Rattle.terms.specs.Tests.{every}
 use Rattle.terms.specs.Points.{within}
 use Rattle.theory.specs.Flags.{and_yes, and_no}

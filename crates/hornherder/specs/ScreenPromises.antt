@@ -22,7 +22,7 @@ use Rattle.theory.specs.ClosedFaces.{closed_screen_answer}
 use Rattle.theory.specs.FirstRefusal.{FirstHeld, if_code, if_refused}
 use Rattle.theory.specs.ListCall.{listed_code}
 use Rattle.theory.specs.FaceLentAlone.{face_alone}
-use Rattle.theory.specs.VisitsOfTheListCall.{list_visits_le_faces, list_visits_le_S}
+use Rattle.theory.proofs.VisitsOfTheListCall.{list_visits_le_faces, list_visits_le_S}
 use Rattle.theory.specs.ScreenCall.{screen_first, screen_reads, screen_code_is_list_code, screen_visits_le, screen_visits_none, screen_nine}
 
 -- What a list of numbers says by its first entry.

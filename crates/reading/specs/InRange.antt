@@ -3,7 +3,7 @@ use Rattle.std.specs.Prelude.{◌≡◌, refl, Bool, true, false, ◌&&◌, not,
 use Rattle.std.specs.Int.Signed.{le_z, lt_z}
 use Rattle.std.specs.Float.{nan, inf, fin}
 use Rattle.std.specs.Float.Ieee.{le, lt, eq}
-use Rattle.whole.specs.Products.{mul_one}
+use Rattle.whole.proofs.Products.{mul_one}
 use Rattle.terms.specs.Value.{is_finite, numerator, denominator, in_range}
 use Rattle.theory.specs.Values.{le_is_fractions, lt_is_fractions}
 

@@ -5,8 +5,8 @@ use Rattle.std.specs.Float.{nan, inf, fin, binary32}
 use Rattle.std.specs.Float.Ieee.{up, down, fits, of_bits, to_bits, is_nan}
 use Rattle.std.specs.Float.Ieee.Exact.{HasValue}
 use Rattle.std.specs.Float.Ieee.Fits.{down_pos, mul-fits}
-use Rattle.whole.specs.Parts.{ints, mul_parts, neg_up, neg_dn}
-use Rattle.whole.specs.Products.{mul_comm}
+use Rattle.whole.proofs.Parts.{ints, mul_parts, neg_up, neg_dn}
+use Rattle.whole.proofs.Products.{mul_comm}
 use Rattle.terms.specs.Value.{signed, floor_of, in_range, coordinate_of}
 use Rattle.theory.specs.Flags.{clash}
 use Rattle.theory.specs.Values.{in_range_lem, signed_times}

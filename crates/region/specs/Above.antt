@@ -3,8 +3,8 @@ use Rattle.std.specs.Prelude.{◌≡◌, refl, Bool, cond, ℕ, zero, suc, ◌�
 use Rattle.std.proofs.Common.{sym, ap, ◌∙◌, arith, SFits, to_z}
 use Rattle.std.specs.Int.Signed.{le_z, lt_z}
 use Rattle.std.specs.Int.{w64}
-use Rattle.whole.specs.Parts.{ints, flags, abs_parts}
-use Rattle.whole.specs.Fits.{fits_dif}
+use Rattle.whole.proofs.Parts.{ints, flags, abs_parts}
+use Rattle.whole.proofs.Fits.{fits_dif}
 use Rattle.terms.specs.Region.{Region, above_at}
 use Rattle.theory.specs.Flags.{same_test}
 use Rattle.theory.specs.Tested.{Between}

@@ -1,7 +1,7 @@
 -- The corner that the signs of a face's components choose from two rows.
 use Rattle.std.specs.Prelude.{◌≡◌, refl, true, false, ℕ, ℤ, pos, negsuc}
 use Rattle.std.specs.Int.Signed.{le_z}
-use Rattle.whole.specs.Parts.{flags}
+use Rattle.whole.proofs.Parts.{flags}
 use Rattle.terms.specs.Region.{by_sign}
 use Rattle.theory.specs.Flags.{clash}
 use Rattle.theory.specs.Tested.{Between, Coordinates}

@@ -3,11 +3,12 @@ use Rattle.std.specs.Prelude.{◌≡◌, List, ℕ, suc, ◌+◌, ◌*◌, ◌�
 use Rattle.std.proofs.Common.{ap, ◌∙◌, mul-le-mul, arith, SFits}
 use Rattle.std.proofs.Math.Decide.{dec_lt}
 use Rattle.std.specs.Int.{w64}
-use Rattle.whole.specs.Parts.{ints, abs_parts}
-use Rattle.whole.specs.Magnitudes.{abs_mul}
-use Rattle.whole.specs.Fits.{fits_abs_le}
-use Rattle.whole.specs.Products.{zero_mul}
-use Rattle.whole.specs.IndexedSum.{sum_to, sum_abs, sum_rest}
+use Rattle.whole.proofs.Parts.{ints, abs_parts}
+use Rattle.whole.proofs.Magnitudes.{abs_mul}
+use Rattle.whole.proofs.Fits.{fits_abs_le}
+use Rattle.whole.proofs.Products.{zero_mul}
+use Rattle.whole.specs.IndexedSum.{sum_to}
+use Rattle.whole.proofs.IndexedSum.{sum_abs, sum_rest}
 use Rattle.terms.specs.Lent.{Faces, faces_of}
 use Rattle.terms.specs.Box.{Box, replaced, left_box, right_box}
 use Rattle.theory.specs.BoxLaws.{replaced_by}

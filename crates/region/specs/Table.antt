@@ -3,7 +3,8 @@ use Rattle.std.specs.Prelude.{◌≡◌, refl, List, ℕ, ◌+◌, ◌*◌, ◌�
 use Rattle.std.proofs.Math.Path.{ap, fun_ext}
 use Rattle.std.proofs.Common.{◌∙◌, arith, length-set}
 use Rattle.std.proofs.Math.Bool.{not}
-use Rattle.whole.specs.IndexedSum.{sum_to, sum_same}
+use Rattle.whole.specs.IndexedSum.{sum_to}
+use Rattle.whole.proofs.IndexedSum.{sum_same}
 use Rattle.terms.specs.Lent.{Faces, faces_of}
 use Rattle.terms.specs.Points.{lone}
 use Rattle.terms.specs.Box.{Box}

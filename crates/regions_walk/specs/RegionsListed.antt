@@ -1,7 +1,8 @@
 -- Several regions of a shelf: room for each in both buffers, what stands there once the first of them are listed, and one region more.
 use Rattle.std.specs.Prelude.{◌≡◌, refl, List, ◌++◌, ℕ, ◌+◌, ◌*◌, ◌≤◌, ◌<◌, length, take, drop, ℤ}
 use Rattle.std.proofs.Common.{subst, add-mul, mul-le-mul_right, suc-mul, arith}
-use Rattle.whole.specs.IndexedTotal.{total_to, total_next}
+use Rattle.whole.specs.IndexedTotal.{total_to}
+use Rattle.whole.proofs.IndexedTotal.{total_next}
 use Rattle.terms.specs.Lent.{Faces, Regions, faces_of}
 use Rattle.terms.specs.RegionFaces.{faces_in, faces_before, faces_of_region}
 use Rattle.terms.specs.Region.{region}

@@ -11,7 +11,7 @@ use Rattle.terms.specs.Lists.{places}
 use Rattle.terms.specs.ArrangeCall.{ArrangedAs}
 use Rattle.terms.specs.ListCall.{list_answer, list_after}
 use Rattle.theory.specs.Flags.{same_test}
-use Rattle.theory.specs.UniqueOrder.{one_shelf}
+use Rattle.theory.proofs.UniqueOrder.{one_shelf}
 use Rattle.theory.specs.ArrangeCall.{arrange_code_reads, arranged_code}
 use Rattle.theory.specs.ListCall.{list_answer_code, list_front, list_answer_reads}
 use Rattle.text.specs.OneToOne.{says_one}

@@ -2,7 +2,7 @@
 use Rattle.std.specs.Prelude.{◌≡◌, refl, List, ℕ, ◌+◌, ◌-◌, ◌/◌, ◌≤◌, ◌<◌, length, get_or, ℤ}
 use Rattle.std.proofs.Common.{◌∙◌, arith}
 use Rattle.std.proofs.Math.Decide.{dec_lt}
-use Rattle.whole.specs.Order.{le_refl, le_trans, le_antisym}
+use Rattle.whole.proofs.Order.{le_refl, le_trans, le_antisym}
 use Rattle.terms.specs.Points.{coord}
 use Rattle.terms.specs.Run.{middle, node, lefts, rights}
 use Rattle.terms.specs.Box.{Box}

@@ -1,7 +1,8 @@
 -- The least box that two boxes lie in: both lie in it, and it lies in every box that both lie in.
 use Rattle.std.specs.Prelude.{◌≡◌, List, ℕ, ◌+◌, ◌≤◌, ◌<◌, length, set, ℤ, pos}
 use Rattle.std.proofs.Common.{not-suc-le-zero, arith, length-set}
-use Rattle.whole.specs.Order.{lesser, lesser_le_left, lesser_le_right, le_lesser, greater, le_greater_left, le_greater_right, greater_le}
+use Rattle.whole.specs.Order.{lesser, greater}
+use Rattle.whole.proofs.Order.{lesser_le_left, lesser_le_right, le_lesser, le_greater_left, le_greater_right, greater_le}
 use Rattle.terms.specs.Points.{lone}
 use Rattle.terms.specs.Box.{Box}
 use Rattle.theory.specs.Stores.{store_next}

@@ -6,8 +6,8 @@ use Rattle.std.proofs.Math.Nat.{pow-le-pow_right}
 use Rattle.std.specs.Int.Signed.{le_z}
 use Rattle.std.specs.Int.{Width, w32, w64}
 use mir.Val.{SFits, hbits, to_z, of_z}
-use Rattle.whole.specs.Parts.{flags, abs_parts}
-use Rattle.whole.specs.Fits.{sfits_mag, widen}
+use Rattle.whole.proofs.Parts.{flags, abs_parts}
+use Rattle.whole.proofs.Fits.{sfits_mag, widen}
 use Rattle.terms.specs.Tests.{every}
 use Rattle.theory.specs.Flags.{and_true, true_and}
 use Rattle.theory.specs.Counting.{every_append}

@@ -3,7 +3,7 @@
 -- proof look inside `above_at`.
 use Rattle.std.specs.Prelude.{◌≡◌, refl, Bool, true, false, cond, ℕ, ℤ, ◌≤ℤ◌}
 use Rattle.std.specs.Int.Signed.{le_z, lt_z}
-use Rattle.whole.specs.Parts.{flags}
+use Rattle.whole.proofs.Parts.{flags}
 use Rattle.terms.specs.Region.{Region, alone, above_at}
 
 -- "A point x is above face (normal, m) when the sum of products is at least m", and "for an open face 'above' means a sum strictly greater than m":

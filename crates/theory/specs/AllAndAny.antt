@@ -1,7 +1,7 @@
 -- Tests over the numbers below a bound, number by number: for all, and for some.
 use Rattle.std.specs.Prelude.{◌≡◌, refl, Bool, true, false, ◌⊎◌, ℕ, zero, suc, ◌<◌}
 use Rattle.std.proofs.Common.{inl, inr, not-suc-le-zero, arith}
-use Rattle.whole.specs.IndexedTotal.{below_suc}
+use Rattle.whole.proofs.IndexedTotal.{below_suc}
 use Rattle.terms.specs.Tests.{all_to, any_to}
 use Rattle.theory.specs.Flags.{clash, contra, and_true, true_and, and_false, or_true, or_false, false_or}
 

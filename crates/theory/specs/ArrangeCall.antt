@@ -17,7 +17,7 @@ use Rattle.theory.specs.StockNumbers.{stock_under}
 use Rattle.theory.specs.Tested.{TestedPoints}
 use Rattle.theory.specs.FirstRefusal.{Passed, FirstHeld, no_zero, first_held, passed_parts, if_code}
 use Rattle.theory.specs.RefusalsPassed.{stock_passed, room_passed}
-use Rattle.theory.specs.UniqueOrder.{one_shelf}
+use Rattle.theory.proofs.UniqueOrder.{one_shelf}
 
 -- What the arrange call has tested.
 pub record ArrangePassed (s : Stock) (o : Order) : Type 0 where

@@ -8,8 +8,8 @@ use Rattle.std.proofs.Common.{⊎_elim, arith}
 use Rattle.std.specs.Int.Signed.{lt_z, le_z}
 use Rattle.std.proofs.Math.Dec.{ltb}
 use borrow.Author.Tests.{ltb-true, ltb-false, lt-ltb}
-use Rattle.whole.specs.Parts.{ints, flags}
-use Rattle.whole.specs.Order.{le_of_eq, lt_lt_z, le_le_z}
+use Rattle.whole.proofs.Parts.{ints, flags}
+use Rattle.whole.proofs.Order.{le_of_eq, lt_lt_z, le_le_z}
 use Rattle.terms.specs.Before.{before}
 use Rattle.theory.specs.Flags.{clash, exclude, and_true, or_false, and_false, or_yes, true_or, true_and}
 

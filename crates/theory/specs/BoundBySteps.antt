@@ -3,7 +3,8 @@
 use Rattle.std.specs.Prelude.{◌≡◌, refl, ℕ, zero, suc, ◌+◌, ◌-◌, ◌/◌, ◌^◌, ◌≤◌, ◌<◌}
 use Rattle.std.proofs.Common.{ap, ◌∙◌, not-suc-le-zero, div-lt_iff_lt-mul, mul-suc, suc-mul, arith}
 use Rattle.std.proofs.Math.Nat.{two-pow-succ, add-div_right, zero-sub}
-use Rattle.whole.specs.IndexedTotal.{total_to, total_front, total_same, total_twice}
+use Rattle.whole.specs.IndexedTotal.{total_to}
+use Rattle.whole.proofs.IndexedTotal.{total_front, total_same, total_twice}
 use Rattle.terms.specs.Bound.{digits_within, digits, S}
 
 -- In k = p + 1 dimensions, where t splits come before the next one on the face's axis.

@@ -4,7 +4,7 @@ use Rattle.std.specs.Prelude.{◌≡◌, refl, Bool, true, false, cond, List, []
 use Rattle.std.proofs.Common.{ap, not-suc-le-zero, le_of_suc-le-suc, arith, get_or-set_same, get_or-set_other, eqb-true, eq-eqb}
 use Rattle.std.proofs.Math.Path.{fun_ext}
 use Rattle.std.proofs.lemmas.Bool.{eqb-false}
-use Rattle.whole.specs.Order.{le_refl}
+use Rattle.whole.proofs.Order.{le_refl}
 use Rattle.terms.specs.declared.CornerRows.{CornerRows}
 use Rattle.terms.specs.Run.{middle, axis, node, lefts, rights}
 use Rattle.terms.specs.Box.{Box, box_of, replaced, left_box, right_box, root_box}

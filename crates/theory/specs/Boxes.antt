@@ -1,7 +1,7 @@
 -- A point in a box, a box in a box, a run whose points all lie in a box: said of the first k dimensions only, and of no region.
 use Rattle.std.specs.Prelude.{◌≡◌, List, ℕ, ◌<◌, length, get_or, ℤ, ◌≤ℤ◌}
 use Rattle.std.proofs.Common.{sym, ◌∙◌}
-use Rattle.whole.specs.Order.{le_refl, le_trans, le_of_eq}
+use Rattle.whole.proofs.Order.{le_refl, le_trans, le_of_eq}
 use Rattle.terms.specs.Box.{Box}
 
 -- The point lies in the box.

@@ -2,7 +2,7 @@
 -- A point is the box whose rows are both the point, so this is a case of nesting.
 use Rattle.std.specs.Prelude.{◌≡◌, refl, Bool, true, false, List, [], ℕ, ◌<◌, ℤ, pos, negsuc, ◌≤ℤ◌}
 use Rattle.std.proofs.Common.{sym, ◌∙◌}
-use Rattle.whole.specs.IndexedSum.{sum_same}
+use Rattle.whole.proofs.IndexedSum.{sum_same}
 use Rattle.terms.specs.Box.{Box}
 use Rattle.terms.specs.Region.{Region, reach, above, inside, by_sign, against, along, wholly_above, wholly_below, is_open}
 use Rattle.terms.specs.Lists.{insides, outsides}

@@ -1,7 +1,8 @@
 -- Counting with a test, and lists that hold the same items in another order: for every test they count alike.
 use Rattle.std.specs.Prelude.{◌≡◌, refl, Bool, true, false, ◌&&◌, not, List, [], ◌∷◌, ◌++◌, map, ℕ, zero, suc, ◌+◌, ◌≤◌, ◌<◌, length, get_or, take, drop, set, eqb}
 use Rattle.std.proofs.Common.{sym, ap, ◌∙◌, not-suc-le-zero, le_of_suc-le-suc, add-one, arith, length-set, length-take, length-drop, take-append-drop, take-suc, get_or-take, get_or-drop, eq-eqb}
-use Rattle.whole.specs.IndexedTotal.{total_to, total_front}
+use Rattle.whole.specs.IndexedTotal.{total_to}
+use Rattle.whole.proofs.IndexedTotal.{total_front}
 use Rattle.terms.specs.Tests.{bit, count, every, keep, pick}
 use Rattle.theory.specs.Flags.{same_test, and_true, true_and, and_yes, and_assoc}
 

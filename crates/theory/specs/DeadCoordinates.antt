@@ -33,7 +33,8 @@ use Rattle.theory.specs.Flags.{and_true}
 use Rattle.theory.specs.PointsThatBelong.{same_tree}
 use Rattle.theory.specs.AnswersAlike.{same_insides, same_outsides, same_open_slots, same_inside_slots, same_reason}
 use Rattle.theory.specs.MembersAlike.{MembersAlike, in_range_alike}
-use Rattle.theory.specs.ArrangeCall.{arrange_passed, arranged_code, arranged_once}
+use Rattle.theory.specs.ArrangeCall.{arrange_passed, arranged_code}
+use Rattle.theory.proofs.ArrangeCall.{arranged_once}
 use Rattle.theory.specs.ListCall.{list_passed}
 use Rattle.theory.specs.ScreenCall.{screen_passed}
 use Rattle.theory.specs.ExplainCall.{explain_passed}

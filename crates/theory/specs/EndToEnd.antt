@@ -5,7 +5,7 @@ use Prim.Native.Nat.{ℕ, zero, suc, ◌*◌, ◌<◌}
 use Rattle.std.proofs.Math.Nat.{suc-mul}
 use native.Mathlib.Omega.{arith}
 use Rattle.std.proofs.Math.ListN.{length-append}
-use Rattle.whole.specs.IndexedTotal.{below_suc}
+use Rattle.whole.proofs.IndexedTotal.{below_suc}
 use Rattle.terms.specs.EndToEnd.{end_to_end, part}
 
 module _ {A : Type 0} (c : ℕ) (each : ℕ → List A) (size : (i : ℕ) → length (each i) ≡ c) where

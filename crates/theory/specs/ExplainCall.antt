@@ -26,7 +26,8 @@ use Rattle.theory.specs.FirstRefusal.{FirstHeld, no_zero, first_held, first_zero
 use Rattle.theory.specs.RefusalsPassed.{dead_passed}
 use Rattle.theory.specs.ArrangeCall.{room_same}
 use Rattle.theory.specs.ScreenCall.{ScreenPassed, screen_tests_passed, screen_first, screen_code_is_list_code, screen_nine}
-use Rattle.theory.specs.Reasons.{says_inside, says_itself, tree_run_lem, number_stands, reason_true, because_only}
+use Rattle.theory.specs.Reasons.{says_inside, says_itself}
+use Rattle.theory.proofs.Reasons.{tree_run_lem, number_stands, reason_true, because_only}
 
 -- The answer's number says inside: 1 or 2.
 abbrev pub inside_number : ℕ → Bool

@@ -2,7 +2,7 @@
 -- same; and where the call on all faces is done, the call on the one is.
 use Rattle.std.specs.Prelude.{◌≡◌, refl, List, [], ◌∷◌, ℕ, ◌+◌, ◌*◌, ◌≤◌, ◌<◌, length, get_or, take, drop, ℤ, pos, ◌*ℤ◌}
 use Rattle.std.proofs.Common.{sym, ap, ◌∙◌, mul-le-mul_right, suc-mul, arith, length-drop, get_or-take, get_or-drop, length-take-le}
-use Rattle.whole.specs.IndexedSum.{sum_same}
+use Rattle.whole.proofs.IndexedSum.{sum_same}
 use Rattle.terms.specs.Tests.{every, all_to, any_to}
 use Rattle.terms.specs.Lent.{Stock, Order, Faces, faces}
 use Rattle.terms.specs.Box.{Box, root_box, shelf_boxes}

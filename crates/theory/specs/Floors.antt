@@ -3,9 +3,9 @@
 use Rattle.std.specs.Prelude.{◌≡◌, ℕ, ◌+◌, ◌*◌, ◌/◌, ◌≤◌, ◌<◌, ℤ, pos, negsuc, ◌+ℤ◌, ◌*ℤ◌, ◌≤ℤ◌, ◌<ℤ◌}
 use Rattle.std.proofs.Common.{ap, sym, ◌∙◌, div-mul-le_self, suc-mul}
 use Rattle.std.proofs.Math.Nat.{lt-div-mul-add}
-use Rattle.whole.specs.Parts.{ints, sum_parts, mul_parts}
-use Rattle.whole.specs.Order.{le_of_eq, le_antisym, lt_of_le_of_lt}
-use Rattle.whole.specs.Products.{mul_comm, mul_assoc, mul_sum, mul_one, mul_mono, mul_cancel, mul_cancel_lt}
+use Rattle.whole.proofs.Parts.{ints, sum_parts, mul_parts}
+use Rattle.whole.proofs.Order.{le_of_eq, le_antisym, lt_of_le_of_lt}
+use Rattle.whole.proofs.Products.{mul_comm, mul_assoc, mul_sum, mul_one, mul_mono, mul_cancel, mul_cancel_lt}
 use Rattle.terms.specs.Value.{floor_of}
 
 -- r ≤ z / c < r + 1, each side times c.

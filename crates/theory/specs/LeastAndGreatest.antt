@@ -2,8 +2,10 @@
 -- what holds of every such choice is proved once, for both.
 use Rattle.std.specs.Prelude.{◌≡◌, refl, ◌⊎◌, List, [], ◌∷◌, ℕ, zero, suc, ◌<◌, length, get_or, ℤ, ◌≤ℤ◌}
 use Rattle.std.proofs.Common.{inl, inr, not-suc-le-zero, le_of_suc-le-suc, arith}
-use Rattle.whole.specs.Order.{le_refl, le_trans, lesser, lesser_one_of, lesser_le_left, lesser_le_right}
-use Rattle.whole.specs.Order.{greater, greater_one_of, le_greater_left, le_greater_right}
+use Rattle.whole.specs.Order.{lesser}
+use Rattle.whole.proofs.Order.{le_refl, le_trans, lesser_one_of, lesser_le_left, lesser_le_right}
+use Rattle.whole.specs.Order.{greater}
+use Rattle.whole.proofs.Order.{greater_one_of, le_greater_left, le_greater_right}
 use Rattle.terms.specs.Box.{least_from, greatest_from}
 use Rattle.theory.specs.Tested.{Between}
 

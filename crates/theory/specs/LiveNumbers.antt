@@ -3,7 +3,7 @@
 use Rattle.std.specs.Prelude.{◌≡◌, refl, ◌≢◌, ◌⊎◌, true, false, not, List, [], ◌∷◌, ℕ, ◌+◌, ◌≤◌, ◌<◌, length, get_or, set, eqb, ltb}
 use Rattle.std.proofs.Common.{sym, ap, ◌∙◌, inl, inr, arith, length-set, get_or-set_same, get_or-set_other, eqb-true, ltb-true, lt-ltb}
 use Rattle.std.proofs.Math.Decide.{dec_lt}
-use Rattle.whole.specs.IndexedTotal.{total_same}
+use Rattle.whole.proofs.IndexedTotal.{total_same}
 use Rattle.terms.specs.Tests.{bit, count, every}
 use Rattle.terms.specs.Points.{below}
 use Rattle.terms.specs.Live.{is_set, is_live, live_count, lowest_dead, taken_live, withdrawn_live}

@@ -8,10 +8,10 @@ use native.Mathlib.Omega.{arith}
 use Rattle.std.proofs.Math.ListN.{get_or}
 use Rattle.std.specs.Int.Signed.{le_z, lt_z}
 use Rattle.std.proofs.lemmas.Bool.{eqb-false}
-use Rattle.whole.specs.Parts.{ints, flags, abs_parts, dif_parts}
-use Rattle.whole.specs.Order.{le_refl, le_of_eq, le_of_lt, le_le_z, le_z_le, le_z_gt, le_antisym, le_trans, lt_of_lt_of_le, not_lt_of_le}
-use Rattle.whole.specs.Magnitudes.{abs_mul, abs_dif}
-use Rattle.whole.specs.IndexedSum.{sum_abs}
+use Rattle.whole.proofs.Parts.{ints, flags, abs_parts, dif_parts}
+use Rattle.whole.proofs.Order.{le_refl, le_of_eq, le_of_lt, le_le_z, le_z_le, le_z_gt, le_antisym, le_trans, lt_of_lt_of_le, not_lt_of_le}
+use Rattle.whole.proofs.Magnitudes.{abs_mul, abs_dif}
+use Rattle.whole.proofs.IndexedSum.{sum_abs}
 use Rattle.terms.specs.Tests.{keep, pick, all_to, rising}
 use Rattle.terms.specs.Screen.{first}
 use Rattle.terms.specs.Region.{Region, reach, above_at, inside}

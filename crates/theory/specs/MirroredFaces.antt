@@ -6,10 +6,10 @@ use Rattle.std.proofs.lemmas.List.{length-map, get_or_at}
 use Rattle.std.proofs.Math.ListN.{get_or-append, get_or-map}
 use Rattle.std.proofs.Math.Seq.{take-append_seam}
 use Rattle.std.specs.Int.Signed.{le_z, lt_z}
-use Rattle.whole.specs.Parts.{flags, neg_up, neg_dn}
-use Rattle.whole.specs.Sums.{neg_le_z, neg_lt_z}
-use Rattle.whole.specs.Products.{neg_mul}
-use Rattle.whole.specs.IndexedSum.{sum_same, sum_neg}
+use Rattle.whole.proofs.Parts.{flags, neg_up, neg_dn}
+use Rattle.whole.proofs.Sums.{neg_le_z, neg_lt_z}
+use Rattle.whole.proofs.Products.{neg_mul}
+use Rattle.whole.proofs.IndexedSum.{sum_same, sum_neg}
 use Rattle.terms.specs.Tests.{count, every, keep, all_to}
 use Rattle.terms.specs.Lent.{Stock, Order, Faces}
 use Rattle.terms.specs.Points.{point_of, within}

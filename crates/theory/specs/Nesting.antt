@@ -3,9 +3,9 @@
 use Rattle.std.specs.Prelude.{◌≡◌, refl, true, false, ◌⊎◌, List, [], ◌∷◌, ℕ, zero, suc, ◌<◌, ℤ, pos, negsuc, ◌*ℤ◌, ◌≤ℤ◌}
 use Rattle.std.proofs.Common.{ap, arith}
 use Rattle.std.proofs.Math.Logic.{inl, inr, ⊎_elim}
-use Rattle.whole.specs.Parts.{ints}
-use Rattle.whole.specs.Products.{mul_mono, mul_anti}
-use Rattle.whole.specs.IndexedSum.{sum_mono}
+use Rattle.whole.proofs.Parts.{ints}
+use Rattle.whole.proofs.Products.{mul_mono, mul_anti}
+use Rattle.whole.proofs.IndexedSum.{sum_mono}
 use Rattle.terms.specs.Tests.{bit, count, every, any_to}
 use Rattle.terms.specs.Run.{axis, node, lefts, rights}
 use Rattle.terms.specs.Tree.{tree_run}
@@ -17,7 +17,8 @@ use Rattle.theory.specs.Counting.{count_every}
 use Rattle.theory.specs.RunParts.{Parts, parts}
 use Rattle.theory.specs.AboveIsUpward.{above_up}
 use Rattle.theory.specs.Boxes.{In, Nested, Alike, alike_nested, alike_sym, Held}
-use Rattle.theory.specs.BoxLaws.{left_nested, right_nested, held_node, held_left, held_right}
+use Rattle.theory.specs.BoxLaws.{left_nested, right_nested, held_node}
+use Rattle.theory.proofs.BoxLaws.{held_left, held_right}
 use Rattle.theory.specs.BoxFuel.{count_boxes}
 
 -- A product grows when the coordinate chosen by the component's sign moves along it.

@@ -2,7 +2,8 @@
 use Rattle.std.specs.Prelude.{◌≡◌, ℕ, ◌≤◌, ◌<◌, ℤ, ◌*ℤ◌}
 use Rattle.std.proofs.Common.{sym, arith}
 use Rattle.std.proofs.Math.Path.{ap, fun_ext}
-use Rattle.whole.specs.IndexedSum.{sum_to, sum_same}
+use Rattle.whole.specs.IndexedSum.{sum_to}
+use Rattle.whole.proofs.IndexedSum.{sum_same}
 use Rattle.terms.specs.Tests.{all_to}
 use Rattle.terms.specs.Box.{Box}
 use Rattle.terms.specs.Region.{Region, above_at, above, inside}

@@ -2,7 +2,7 @@
 use Rattle.std.specs.Prelude.{◌≡◌, refl, Bool, true, ◌&&◌, List, ℕ, ◌+◌, ◌*◌, ◌/◌, ◌%◌, ◌≤◌, ◌<◌, length, get_or, ℤ, pos, negsuc, ltb}
 use Rattle.std.proofs.Common.{ap, mod-lt, div-add-mod', div-lt_iff_lt-mul, mul_comm, arith, ltb-true, lt-ltb}
 use Rattle.std.specs.Int.Signed.{le_z}
-use Rattle.whole.specs.Order.{le_z_le, le_le_z}
+use Rattle.whole.proofs.Order.{le_z_le, le_le_z}
 use Rattle.terms.specs.Tests.{bit, every}
 use Rattle.terms.specs.Points.{coord, below, is_coordinate}
 use Rattle.terms.specs.Tree.{members}

@@ -30,8 +30,10 @@ use Rattle.theory.specs.Nesting.{settled_nested, below_one_settled, above_all_se
 use Rattle.theory.specs.Containment.{wholly_below_point, above_all_inside, below_one_outside}
 use Rattle.theory.specs.LowestThatPasses.{lowest_one}
 use Rattle.theory.specs.BranchesOfARun.{left_of, right_of, branches_length, branch_placed, shelf_branches_boxes}
-use Rattle.theory.specs.Way.{way, way_node, way_left, way_right, WayTold, way_told}
-use Rattle.theory.specs.ReasonOnTheWay.{AboveEvery, BelowFirst, OpenBefore, NearestOn, BecauseOn, reason_on, EachHolds, on_way_true, on_way_only}
+use Rattle.theory.specs.Way.{way, WayTold}
+use Rattle.theory.proofs.Way.{way_node, way_left, way_right, way_told}
+use Rattle.theory.specs.ReasonOnTheWay.{AboveEvery, BelowFirst, OpenBefore, NearestOn, BecauseOn, reason_on, EachHolds}
+use Rattle.theory.proofs.ReasonOnTheWay.{on_way_true, on_way_only}
 
 -- ---- the relation and the way
 

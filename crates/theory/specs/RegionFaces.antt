@@ -2,7 +2,7 @@
 -- would be passed. The counts before a region and its own are at most the whole, and what every item of a list passes, the items of a part pass.
 use Rattle.std.specs.Prelude.{◌≡◌, List, ℕ, ◌+◌, ◌*◌, ◌≤◌, ◌<◌, length, drop, pos}
 use Rattle.std.proofs.Common.{mul-add, mul-le-mul_left, arith, length-drop, length-take-le}
-use Rattle.whole.specs.IndexedTotal.{total_part}
+use Rattle.whole.proofs.IndexedTotal.{total_part}
 use Rattle.terms.specs.Lent.{Regions}
 use Rattle.terms.specs.EndToEnd.{part}
 use Rattle.terms.specs.RegionFaces.{faces_in, faces_before, joined_faces, faces_of_region}

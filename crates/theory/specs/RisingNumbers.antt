@@ -2,7 +2,8 @@
 use Rattle.std.specs.Prelude.{◌≡◌, refl, Bool, true, false, ◌&&◌, not, List, [], ◌∷◌, ◌++◌, ℕ, zero, suc, ◌+◌, ◌-◌, ◌≤◌, ◌<◌, length, get_or, eqb, ltb}
 use Rattle.std.proofs.Common.{sym, ap, ◌∙◌, append-nil, not-suc-le-zero, le_of_suc-le-suc, add-zero, arith, length-append, eqb-true, ltb-true, ltb-false, lt-ltb, le-ltb}
 use Rattle.std.proofs.lemmas.Bool.{eqb-false}
-use Rattle.whole.specs.IndexedTotal.{total_to, total_front, total_same}
+use Rattle.whole.specs.IndexedTotal.{total_to}
+use Rattle.whole.proofs.IndexedTotal.{total_front, total_same}
 use Rattle.terms.specs.Tests.{bit, count, every, keep, pick, rising}
 use Rattle.terms.specs.Points.{below}
 use Rattle.terms.specs.Tree.{members}

@@ -3,7 +3,7 @@
 use Rattle.std.specs.Prelude.{◌≡◌, true, List, [], ◌∷◌, ℕ, suc, ◌<◌, length, get_or, ℤ}
 use Rattle.std.proofs.Common.{not-suc-le-zero, arith}
 use Rattle.std.specs.Int.Signed.{le_z}
-use Rattle.whole.specs.Order.{le_antisym, le_le_z, le_z_le}
+use Rattle.whole.proofs.Order.{le_antisym, le_le_z, le_z_le}
 use Rattle.terms.specs.Tests.{every}
 use Rattle.terms.specs.Points.{within}
 use Rattle.terms.specs.Box.{root_box}

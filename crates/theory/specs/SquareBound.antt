@@ -9,10 +9,11 @@ use Rattle.std.proofs.Math.Nat.{two-pow-succ, add-mod_right}
 use Rattle.std.proofs.Math.Decide.{ℕ_discrete}
 use native.Mathlib.Omega.{arith}
 use Rattle.std.proofs.Math.IntN.{ℤ}
-use Rattle.whole.specs.Products.{zero_mul}
-use Rattle.whole.specs.Magnitudes.{abs_zero}
-use Rattle.whole.specs.IndexedSum.{sum_same}
-use Rattle.whole.specs.IndexedTotal.{total_to, total_most, total_one_of}
+use Rattle.whole.proofs.Products.{zero_mul}
+use Rattle.whole.proofs.Magnitudes.{abs_zero}
+use Rattle.whole.proofs.IndexedSum.{sum_same}
+use Rattle.whole.specs.IndexedTotal.{total_to}
+use Rattle.whole.proofs.IndexedTotal.{total_most, total_one_of}
 use Rattle.terms.specs.Tests.{bit, count}
 use Rattle.terms.specs.Run.{axis, node, lefts, rights}
 use Rattle.terms.specs.Tree.{tree_run}
@@ -24,11 +25,14 @@ use Rattle.theory.specs.Flags.{clash, not_false}
 use Rattle.theory.specs.Counting.{bit_le}
 use Rattle.theory.specs.RunParts.{Parts, parts, left_length, right_length}
 use Rattle.theory.specs.Boxes.{Held}
-use Rattle.theory.specs.BoxLaws.{replaced_same, held_left, held_right, held_root}
+use Rattle.theory.specs.BoxLaws.{replaced_same, held_root}
+use Rattle.theory.proofs.BoxLaws.{held_left, held_right}
 use Rattle.theory.specs.BoxFuel.{count_boxes, visits_count}
-use Rattle.theory.specs.Nesting.{Open, to_open, settled_none_open}
+use Rattle.theory.specs.Nesting.{Open, to_open}
+use Rattle.theory.proofs.Nesting.{settled_none_open}
 use Rattle.theory.specs.SumBound.{visits_le_faces}
-use Rattle.theory.specs.BoundBySteps.{step_bound, step_bound_le_S, digits_room}
+use Rattle.theory.specs.BoundBySteps.{step_bound}
+use Rattle.theory.proofs.BoundBySteps.{step_bound_le_S, digits_room}
 
 -- Face i has no component but the one on the axis a. A normal of all zeros has any axis.
 record OnAxis (g : Region) (i a : ℕ) : Type 0 where

@@ -2,7 +2,8 @@
 -- slot that counts on the left counts on the right; nothing is asked of the tree.
 use Rattle.std.specs.Prelude.{◌≡◌, refl, Bool, true, false, List, [], ◌∷◌, ℕ, ◌≤◌, ℤ}
 use Rattle.std.proofs.Common.{ap, arith}
-use Rattle.whole.specs.IndexedTotal.{total_to, total_add, total_term, total_same}
+use Rattle.whole.specs.IndexedTotal.{total_to}
+use Rattle.whole.proofs.IndexedTotal.{total_add, total_term, total_same}
 use Rattle.terms.specs.Tests.{bit, count}
 use Rattle.terms.specs.Box.{Box, shelf_boxes}
 use Rattle.terms.specs.Region.{Region, alone, is_open}

@@ -7,7 +7,7 @@ use native.Mathlib.Omega.{arith}
 use Rattle.std.proofs.lemmas.List.{length-map}
 use Rattle.std.proofs.Math.ListN.{get_or-append}
 use Rattle.std.specs.Int.Signed.{le_z}
-use Rattle.whole.specs.Order.{le_antisym, le_z_le, le_le_z, le_refl}
+use Rattle.whole.proofs.Order.{le_antisym, le_z_le, le_le_z, le_refl}
 use Rattle.terms.specs.Tests.{rising}
 use Rattle.terms.specs.Run.{lefts, rights}
 use Rattle.terms.specs.Box.{Box}

@@ -2,7 +2,7 @@
 use Rattle.std.specs.Prelude.{◌≡◌, true, List, ℕ, ◌+◌, ◌*◌, ◌≤◌, ◌<◌, length, get_or, ℤ, pos, negsuc, ◌≤ℤ◌}
 use Rattle.std.proofs.Common.{mul_comm, mul-le-mul_right, arith}
 use Rattle.std.specs.Int.Signed.{le_z}
-use Rattle.whole.specs.Order.{le_z_le}
+use Rattle.whole.proofs.Order.{le_z_le}
 use Rattle.terms.specs.Tests.{every}
 use Rattle.terms.specs.Lent.{Stock, Faces}
 use Rattle.terms.specs.Points.{point_of, belongs_to, within}

@@ -1,7 +1,8 @@
 -- The visits by tight boxes: never more than those by branch boxes, so that both bounds hold of them too.
 use Rattle.std.specs.Prelude.{◌≡◌, true, false, List, [], ◌∷◌, ℕ, ◌*◌, ◌≤◌, ◌<◌, length, ℤ}
 use Rattle.std.proofs.Common.{arith}
-use Rattle.whole.specs.IndexedTotal.{total_to, total_same}
+use Rattle.whole.specs.IndexedTotal.{total_to}
+use Rattle.whole.proofs.IndexedTotal.{total_same}
 use Rattle.terms.specs.Tests.{count}
 use Rattle.terms.specs.Tree.{tree_run}
 use Rattle.terms.specs.Box.{least_from, greatest_from, root_box}
@@ -13,9 +14,9 @@ use Rattle.theory.specs.Counting.{count_map, count_not}
 use Rattle.theory.specs.BoxFuel.{visits_count}
 use Rattle.theory.specs.Containment.{dot_settled}
 use Rattle.theory.specs.SumBound.{open_count_le_faces, visits_le_faces}
-use Rattle.theory.specs.SquareBound.{square_visits_le_S}
+use Rattle.theory.proofs.SquareBound.{square_visits_le_S}
 use Rattle.theory.specs.TightBoxes.{tights_length}
-use Rattle.theory.specs.TightWithinBranch.{count_nested, shelf_nested}
+use Rattle.theory.proofs.TightWithinBranch.{count_nested, shelf_nested}
 
 -- "Its visits are the slots whose tight box is open."
 pub tight_visits_count : (g : Region) (at : ℕ → ℕ → ℤ) (run : List ℕ) → tight_visits g at run ≡ count (is_open g) (shelf_tight_boxes at run)

@@ -11,7 +11,8 @@ use Rattle.theory.specs.Flags.{clash}
 use Rattle.theory.specs.Counting.{bit_le}
 use Rattle.theory.specs.RunParts.{Parts, parts}
 use Rattle.theory.specs.Boxes.{Nested, Held}
-use Rattle.theory.specs.BoxLaws.{held_root, held_left, held_right}
+use Rattle.theory.specs.BoxLaws.{held_root}
+use Rattle.theory.proofs.BoxLaws.{held_left, held_right}
 use Rattle.theory.specs.Nesting.{to_open, of_open, open_nested, settled_nested}
 use Rattle.theory.specs.SlotBySlot.{SlotBySlot, no_more, one_more, slots_append, slot_at}
 use Rattle.theory.specs.TightBoxes.{tight_nested}

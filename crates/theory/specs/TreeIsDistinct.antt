@@ -13,7 +13,8 @@ use Rattle.theory.specs.Counting.{Distinct, at_every, bit_le}
 use Rattle.theory.specs.RunParts.{Parts, parts, count_run}
 use Rattle.theory.specs.BeforeIsAnOrder.{before_asym, before_self}
 use Rattle.theory.specs.SameByNumber.{count_none}
-use Rattle.theory.specs.EachNumberOnce.{BelongBelow, each_once_lem, distinct_each}
+use Rattle.theory.specs.EachNumberOnce.{BelongBelow, each_once_lem}
+use Rattle.theory.proofs.EachNumberOnce.{distinct_each}
 use Rattle.theory.specs.StockNumbers.{stock_under, stock_members}
 
 module _ {f k : ℕ} {at : ℕ → ℕ → ℤ} {j x : ℕ} {xs : List ℕ} (w : Parts f k at j (x ∷ xs)) (v : ℕ) where

@@ -7,9 +7,9 @@ use Rattle.std.specs.Int.Signed.{le_z, lt_z}
 use Rattle.std.specs.Float.{nan, inf, fin}
 use Rattle.std.specs.Float.Ieee.{up, down, below, level, le, lt, eq}
 use Rattle.std.specs.Float.Ieee.Fits.{down_pos}
-use Rattle.whole.specs.Parts.{ints, flags, mul_parts, neg_up, neg_dn}
-use Rattle.whole.specs.Order.{le_of_eq, le_of_lt, le_antisym, le_z_le, le_le_z, lt_z_lt, lt_z_ge, ge_lt_z}
-use Rattle.whole.specs.Products.{neg_mul, mul_assoc, mul_mono}
+use Rattle.whole.proofs.Parts.{ints, flags, mul_parts, neg_up, neg_dn}
+use Rattle.whole.proofs.Order.{le_of_eq, le_of_lt, le_antisym, le_z_le, le_le_z, lt_z_lt, lt_z_ge, ge_lt_z}
+use Rattle.whole.proofs.Products.{neg_mul, mul_assoc, mul_mono}
 use Rattle.terms.specs.Points.{is_coordinate}
 use Rattle.terms.specs.Value.{signed, is_finite, numerator, denominator, in_range, coordinate_of}
 use Rattle.theory.specs.Flags.{clash, same_test, and_true, true_and, or_true}

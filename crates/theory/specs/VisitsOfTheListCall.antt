@@ -7,7 +7,8 @@ use Rattle.std.proofs.Math.Bool.{true}
 use Prim.Native.Nat.{ℕ, zero, suc, ◌*◌, ◌≤◌, ◌<◌}
 use Rattle.std.proofs.Math.ListN.{length}
 use Rattle.std.proofs.Math.Seq.{length-take-le}
-use Rattle.whole.specs.IndexedTotal.{total_to, total_same}
+use Rattle.whole.specs.IndexedTotal.{total_to}
+use Rattle.whole.proofs.IndexedTotal.{total_same}
 use Rattle.terms.specs.Lent.{Stock, Order, Faces}
 use Rattle.terms.specs.Points.{point_of, belongs_to, slots_of}
 use Rattle.terms.specs.Tree.{tree_run, each_once, is_tree, shelf_run}
@@ -18,7 +19,7 @@ use Rattle.terms.specs.ListCall.{list_code, list_answer}
 use Rattle.theory.specs.Flags.{and_true}
 use Rattle.theory.specs.ListCall.{list_passed}
 use Rattle.theory.specs.SumBound.{visits_le_faces}
-use Rattle.theory.specs.SquareBound.{square_visits_le_S}
+use Rattle.theory.proofs.SquareBound.{square_visits_le_S}
 use Rattle.theory.specs.FaceLentAlone.{face_alone, lent_visits, lent_done}
 
 -- Done, the call answers the defined count.

@@ -12,7 +12,8 @@ use Rattle.theory.specs.Flags.{clash}
 use Rattle.theory.specs.RunParts.{Parts, parts, left_length, right_length}
 use Rattle.theory.specs.RunSides.{Side, side, at_node, on_left, on_right}
 use Rattle.theory.specs.Boxes.{In, Nested, Held, nested_self, nested_trans}
-use Rattle.theory.specs.BoxLaws.{left_nested, right_nested, held_node, held_left, held_right}
+use Rattle.theory.specs.BoxLaws.{left_nested, right_nested, held_node}
+use Rattle.theory.proofs.BoxLaws.{held_left, held_right}
 use Rattle.theory.specs.BranchesOfARun.{
   left_of,
   right_of,

@@ -12,7 +12,8 @@ use Rattle.terms.specs.Summary.{summary}
 use Rattle.terms.specs.Region.{Region, region, inside}
 use Rattle.terms.specs.Visits.{tight_visits}
 use Rattle.theory.specs.BoxLaws.{held_root}
-use Rattle.theory.specs.TightVisits.{tight_visits_count, tight_visits_le_slots, tight_visits_le}
+use Rattle.theory.specs.TightVisits.{tight_visits_count, tight_visits_le_slots}
+use Rattle.theory.proofs.TightVisits.{tight_visits_le}
 use Rattle.theory.specs.InsideAndOutside.{lists_length}
 use Rattle.region.specs.Table.{Tabled, tabled, inside_tabled, open_tabled}
 use Rattle.region.specs.Ranges.{KnownTable}

@@ -8,7 +8,8 @@ use Rattle.terms.specs.Live.{live_count}
 use Rattle.terms.specs.Points.{coord}
 use Rattle.terms.specs.Region.{region}
 use Rattle.terms.specs.Explain.{reason_of}
-use Rattle.theory.specs.ExplainCall.{ExplainPassed, picture_stands}
+use Rattle.theory.specs.ExplainCall.{ExplainPassed}
+use Rattle.theory.proofs.ExplainCall.{picture_stands}
 use Rattle.descent.specs.Root.{Shelved, shelf_rooted}
 use Rattle.hornherder.specs.ExplainOutcome.{explain_tested, explain_refused, reason_small, explain_done}
 use Rattle.hornherder.proofs.explain.hornherder_explain.Goals as goal

@@ -1,6 +1,7 @@
 use mathlib.Core.Path.{refl}
 use native.Mathlib.Omega.{arith}
-use Rattle.whole.specs.IndexedTotal.{total_to, total_most, total_next}
+use Rattle.whole.specs.IndexedTotal.{total_to}
+use Rattle.whole.proofs.IndexedTotal.{total_most, total_next}
 use Rattle.terms.specs.RegionFaces.{faces_in}
 use Rattle.hornherder.proofs.list_regions.face_total.Goals as goal
 

@@ -2,7 +2,7 @@
 use mathlib.Core.Path.{refl}
 use native.Mathlib.Omega.{arith}
 use lib.ListN.{length}
-use Rattle.whole.specs.IndexedTotal.{total_most}
+use Rattle.whole.proofs.IndexedTotal.{total_most}
 use Rattle.terms.specs.RegionFaces.{faces_in}
 use Rattle.terms.specs.Refusals.{face_counts_refusals}
 use Rattle.theory.specs.FirstRefusal.{Passed, no_zero}

@@ -1,7 +1,7 @@
 -- A refusal is the answer; where all was passed, what is measured of the one point, read into a value, is.
 use native.Mathlib.Omega.{arith}
 use mir.Facts.{to_z-of_z}
-use Rattle.whole.specs.Fits.{sfits_mag}
+use Rattle.whole.proofs.Fits.{sfits_mag}
 use Rattle.terms.specs.Lent.{faces}
 use Rattle.theory.specs.PlaceCall.{PlacePassed}
 use Rattle.region.specs.Measured.{measured_small}

@@ -7,7 +7,7 @@ use lib.IntN.{ℤ, pos, negsuc, ◌-ℤ◌}
 use mir.Syntax.{w32}
 use mir.Val.{to_z}
 use mir.Facts.{to_z-of_z, to_z_pos}
-use Rattle.whole.specs.Parts.{ints, dif_parts}
+use Rattle.whole.proofs.Parts.{ints, dif_parts}
 use Rattle.reading.specs.Bits.{exponent_of, bits_below_one, bits_below_zero, bits_above, bits_below}
 use Rattle.reading.proofs.value.floor_of_bits.Goals as goal
 

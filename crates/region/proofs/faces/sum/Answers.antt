@@ -7,7 +7,7 @@ use borrow.Author.Rules.{rules}
 use mir.Syntax.{w32, w64}
 use mir.Val.{SFits, to_z}
 use mir.Facts.{to_z-of_z}
-use Rattle.whole.specs.Fits.{wide_back}
+use Rattle.whole.proofs.Fits.{wide_back}
 use Rattle.whole.specs.IndexedSum.{sum_to}
 use Rattle.terms.specs.Points.{lone}
 use Rattle.region.specs.Table.{products}

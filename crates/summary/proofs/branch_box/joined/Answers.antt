@@ -3,7 +3,7 @@ use native.Mathlib.Omega.{arith}
 use borrow.Author.Rules.{sfits_of}
 use mir.Syntax.{w32}
 use mir.Facts.{to_z-of_z}
-use Rattle.whole.specs.Fits.{sfits_mag}
+use Rattle.whole.proofs.Fits.{sfits_mag}
 use Rattle.whole.specs.Order.{lesser, greater}
 use Rattle.terms.specs.Points.{lone}
 use Rattle.summary.specs.Joined.{chosen_next}

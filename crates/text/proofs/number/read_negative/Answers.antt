@@ -4,8 +4,8 @@ use native.Mathlib.Omega.{arith}
 use lib.IntN.{pos, neg_ℤ}
 use mir.Syntax.{w64}
 use mir.Facts.{to_z_pos, to_z-of_z}
-use Rattle.whole.specs.Sums.{zero_add}
-use Rattle.whole.specs.Fits.{fits_dif}
+use Rattle.whole.proofs.Sums.{zero_add}
+use Rattle.whole.proofs.Fits.{fits_dif}
 use Rattle.theory.specs.Flags.{not_false}
 use Rattle.text.specs.NumberReading.{negative_miss, negative_hit}
 use Rattle.text.proofs.number.read_negative.Goals as goal

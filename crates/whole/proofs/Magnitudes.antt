@@ -2,7 +2,8 @@
 use Rattle.std.specs.Prelude.{◌≡◌, refl, ℕ, suc, ◌+◌, ◌-◌, ◌*◌, ◌/◌, ◌≤◌, ℤ, pos, negsuc, neg_ℤ, nat_abs, ◌+ℤ◌, ◌-ℤ◌, ◌*ℤ◌, ◌≤ℤ◌}
 use Rattle.std.proofs.Common.{div-le_self, arith}
 use Rattle.std.specs.Int.Signed.{mag, quot_z}
-use Rattle.whole.specs.Parts.{ints, up, dn, sum_parts, dif_parts, abs_parts, neg_up, neg_dn}
+use Rattle.whole.specs.Parts.{up, dn}
+use Rattle.whole.proofs.Parts.{ints, sum_parts, dif_parts, abs_parts, neg_up, neg_dn}
 
 pub abs_neg : (a : ℤ) → nat_abs (neg_ℤ a) ≡ nat_abs a
 abs_neg a = omega (arith, abs_parts (neg_ℤ a), abs_parts a, neg_up a, neg_dn a)

@@ -1,7 +1,7 @@
 -- Sums and differences of whole numbers, and how the order goes with them.
 use Rattle.std.specs.Prelude.{◌≡◌, refl, Bool, true, false, not, ℤ, pos, neg_ℤ, ◌+ℤ◌, ◌-ℤ◌, ◌≤ℤ◌}
 use Rattle.std.specs.Int.Signed.{le_z, lt_z}
-use Rattle.whole.specs.Parts.{ints, flags, sum_parts, dif_parts, neg_up, neg_dn}
+use Rattle.whole.proofs.Parts.{ints, flags, sum_parts, dif_parts, neg_up, neg_dn}
 
 pub add_comm : (a b : ℤ) → a +ℤ b ≡ b +ℤ a
 add_comm a b = omega (ints, sum_parts a b, sum_parts b a)

@@ -1,7 +1,8 @@
 -- Products of whole numbers, and how the order goes with them.
 use Rattle.std.specs.Prelude.{◌≡◌, ℕ, zero, suc, ◌+◌, ◌*◌, ◌≤◌, ◌<◌, ℤ, pos, negsuc, neg_ℤ, ◌+ℤ◌, ◌-ℤ◌, ◌*ℤ◌, ◌≤ℤ◌, ◌<ℤ◌}
 use Rattle.std.proofs.Common.{ap, ◌∙◌, mul-le-mul_left, add-mul, le_of_mul-le-mul_right, lt_of_mul-lt-mul_right}
-use Rattle.whole.specs.Parts.{ints, up, dn, to≤, sum_parts, dif_parts, mul_parts, neg_up, neg_dn}
+use Rattle.whole.specs.Parts.{up, dn}
+use Rattle.whole.proofs.Parts.{ints, to≤, sum_parts, dif_parts, mul_parts, neg_up, neg_dn}
 
 pub mul_comm : (a b : ℤ) → a *ℤ b ≡ b *ℤ a
 mul_comm a b = omega (ints, mul_parts a b, mul_parts b a)

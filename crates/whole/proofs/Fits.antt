@@ -5,8 +5,9 @@ use Rattle.std.specs.Int.Signed.{mag, quot_z, nat_abs-le}
 use Rattle.std.specs.Int.{Width, w32, w64}
 use mir.Val.{SFits, hbits, to_z, of_z}
 use Rattle.std.proofs.Math.Facts.{sfits_widen}
-use Rattle.whole.specs.Parts.{up, dn, to≡, flags}
-use Rattle.whole.specs.Magnitudes.{abs_mul, abs_sum, abs_dif, mag_abs, mag_quot}
+use Rattle.whole.specs.Parts.{up, dn}
+use Rattle.whole.proofs.Parts.{to≡, flags}
+use Rattle.whole.proofs.Magnitudes.{abs_mul, abs_sum, abs_dif, mag_abs, mag_quot}
 
 pub sfits_mag : {w : Width} {z : ℤ} → mag z < 2 ^ hbits w → SFits w z
 sfits_mag h = record { sfits = h }
