@@ -1,5 +1,5 @@
 -- By how much a point is above a face or below it, and the least of this over the faces.
-use Rattle.std.specs.Prelude.{List, ℕ, zero, suc, ℤ, pos, ◌-ℤ◌}
+use Rattle.std.specs.Prelude.{ℕ, zero, suc, ℤ, pos, ◌-ℤ◌}
 use Rattle.std.specs.Int.Signed.{le_z}
 use Rattle.terms.specs.Tests.{keep, rising}
 use Rattle.terms.specs.Box.{least_from}

@@ -1,7 +1,6 @@
 -- Readings: what a reading gives. A colour is a point of three coordinates, a grey is its coordinate and 0 twice, and nothing measured is no point.
 use Rattle.std.specs.Prelude.{Bool, cond, List, [], ◌∷◌, ℕ, get_or, pos, Float}
 use Rattle.std.specs.Float.{nan}
-use Rattle.terms.specs.declared.Colour.{Colour}
 use Rattle.terms.specs.declared.Reading.{Reading}
 use Rattle.terms.specs.declared.Reading.TheVariants as reading
 use Rattle.terms.specs.declared.Given.{Given}

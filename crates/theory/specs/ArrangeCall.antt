@@ -1,6 +1,5 @@
--- The arrange call: the first refusal is its number, what it has tested where that is 0, what it reads of the order, and that its contract leaves one outcome:
--- the tree's order is unique, the later places are kept, and a refusal keeps all.
-use Rattle.std.specs.Prelude.{◌≡◌, Bool, List, ◌++◌, ℕ, zero, suc, ◌≤◌, ◌<◌, length, get_or, take, drop, eqb, ltb}
+-- The arrange call: the first refusal is its number, what it has tested where that is 0, and what it reads of the order.
+use Rattle.std.specs.Prelude.{◌≡◌, Bool, List, ◌++◌, ℕ, ◌≤◌, ◌<◌, length, get_or, take, drop, eqb, ltb}
 use Rattle.std.proofs.Math.Path.{refl}
 use Rattle.std.proofs.Common.{sym, ap, ◌∙◌, arith, take-append-drop, length-take, ltb-true, lt-ltb}
 use Rattle.std.proofs.Math.Bool.{true, false}
@@ -17,7 +16,6 @@ use Rattle.theory.specs.StockNumbers.{stock_under}
 use Rattle.theory.specs.Tested.{TestedPoints}
 use Rattle.theory.specs.FirstRefusal.{Passed, FirstHeld, no_zero, first_held, passed_parts, if_code}
 use Rattle.theory.specs.RefusalsPassed.{stock_passed, room_passed}
-use Rattle.theory.proofs.UniqueOrder.{one_shelf}
 
 -- What the arrange call has tested.
 pub record ArrangePassed (s : Stock) (o : Order) : Type 0 where
@@ -94,23 +92,3 @@ arrange_reads s o q e = rw (arrange_code_reads s o q (room_same (slots_of s) o.s
 -- Lists that agree in their first n items and in the later ones are equal.
 pub same_parts : {A : Type 0} (n : ℕ) (xs ys : List A) → take n xs ≡ take n ys → drop n xs ≡ drop n ys → xs ≡ ys
 same_parts n xs ys e f = sym (take-append-drop n xs) ∙ (cc) ∙ take-append-drop n ys
-
--- Done, what the call leaves hangs on the first contents' later places only.
-pub arranged_same : {s : Stock} {o q x y : Order} {a b : Arranging} → ArrangedAs s o a x → ArrangedAs s q b y → a.code ≡ 0 → b.code ≡ 0
-    → drop (slots_of s) o.slots ≡ drop (slots_of s) q.slots → x.slots ≡ y.slots
-arranged_same {s} {o} {q} {x} {y} v w z u e =
-    same_parts (slots_of s) x.slots y.slots (one_shelf s x y (v.arranged z) (w.arranged u)) (v.later z ∙ e ∙ sym (w.later u))
-
--- "If it was, no place differs": an order that is the shelf is left as it was.
-pub arranged_kept : {s : Stock} {o x : Order} {a : Arranging} → ArrangedAs s o a x → a.code ≡ 0 → is_shelf s o ≡ true → x.slots ≡ o.slots
-arranged_kept {s} {o} {x} v z t = same_parts (slots_of s) x.slots o.slots (one_shelf s x o (v.arranged z) t) (v.later z)
-
--- "A public call's contract determines its answer and every lent place afterwards."
-pub arranged_once : {s : Stock} {o : Order} {a b : Arranging} {x y : Order} → ArrangedAs s o a x → ArrangedAs s o b y → (a ≡ b) × (x.slots ≡ y.slots)
-arranged_once {s} {o} {a} {b} {x} {y} v w =
-    let e : a ≡ b = v.answered ∙ sym w.answered in
-    (e, go a.code refl (ap (λ (r : Arranging). r.code) (sym e)))
-  where
-    go : (c : ℕ) → a.code ≡ c → b.code ≡ a.code → x.slots ≡ y.slots
-    go zero z m = arranged_same v w z (m ∙ z) refl
-    go (suc c) z m = v.refused (λ u. omega arith) ∙ sym (w.refused (λ u. omega arith))

@@ -1,15 +1,13 @@
--- Where boxes lie: a branch's box within its parent's, a branch's points in its box, the root's points in the root box.
+-- Where boxes lie: a branch's box within its parent's, the root's points in the root box.
 -- A branch's box differs from its parent's in one place, so each law compares a row with the row in which that place is replaced.
-use Rattle.std.specs.Prelude.{◌≡◌, refl, Bool, true, false, cond, List, [], ◌∷◌, ◌≢◌, ℕ, zero, suc, ◌+◌, ◌<◌, length, get_or, set, ℤ, pos, ◌≤ℤ◌, eqb}
+use Rattle.std.specs.Prelude.{◌≡◌, refl, Bool, true, false, cond, List, [], ◌∷◌, ◌≢◌, ℕ, zero, suc, ◌<◌, length, get_or, set, ℤ, pos, ◌≤ℤ◌, eqb}
 use Rattle.std.proofs.Common.{ap, not-suc-le-zero, le_of_suc-le-suc, arith, get_or-set_same, get_or-set_other, eqb-true, eq-eqb}
 use Rattle.std.proofs.Math.Path.{fun_ext}
 use Rattle.std.proofs.lemmas.Bool.{eqb-false}
 use Rattle.whole.proofs.Order.{le_refl}
 use Rattle.terms.specs.declared.CornerRows.{CornerRows}
-use Rattle.terms.specs.Run.{middle, axis, node, lefts, rights}
+use Rattle.terms.specs.Run.{middle, node}
 use Rattle.terms.specs.Box.{Box, box_of, replaced, left_box, right_box, root_box}
-use Rattle.theory.specs.RunParts.{Parts, left_length, right_length, left_at, right_at}
-use Rattle.theory.specs.BeforeIsAnOrder.{before_le}
 use Rattle.theory.specs.LeastAndGreatest.{least_le_first, least_le_each, first_le_greatest, each_le_greatest}
 use Rattle.theory.specs.Boxes.{In, Nested, Alike, Held}
 
@@ -39,39 +37,9 @@ module _ {k : ℕ} {b : Box} {point : ℕ → ℤ} (w : In k b point) (s : ℕ) 
     most = λ d l. le_refl (b.high d);
   }
 
--- A point of the box that is on the branch's side of x lies in the branch's box.
-module _ {k : ℕ} {b : Box} {point : ℕ → ℤ} (w : In k b point) (s : ℕ) (x : ℤ) where
-  in_left : point s ≤ℤ x → In k (left_box b s x) point
-  in_left side = record {
-    least = w.least;
-    most = λ d l. replaced_by (λ e z. point e ≤ℤ z) b.high s x d (λ e. rw e side) (λ n. w.most d l);
-  }
-
-  in_right : x ≤ℤ point s → In k (right_box b s x) point
-  in_right side = record {
-    least = λ d l. replaced_by (λ e z. z ≤ℤ point e) b.low s x d (λ e. rw e side) (λ n. w.least d l);
-    most = w.most;
-  }
-
 -- A box that holds a run holds its node's point; in a tree, the branches' boxes hold the branches.
 pub held_node : {k : ℕ} {at : ℕ → ℕ → ℤ} {b : Box} {run : List ℕ} → Held k at b run → 0 < length run → In k b (at (node run))
 held_node {run = run} w some = w.each (middle (length run)) (omega arith)
-
-module _ {f k : ℕ} {at : ℕ → ℕ → ℤ} {j : ℕ} {b : Box} {run : List ℕ} (p : Parts f k at j run) (w : Held k at b run) where
-  pub held_left : Held k at (left_box b (axis k j) (at (node run) (axis k j))) (lefts run)
-  held_left = record {
-    each = λ i l.
-        let h : i < length run = omega (arith, left_length run) in
-        in_left (rw (left_at run i l) (w.each i h)) (axis k j) _ (before_le at (axis k j) _ _ (p.before_node i l));
-  }
-
-  pub held_right : Held k at (right_box b (axis k j) (at (node run) (axis k j))) (rights run)
-  held_right = record {
-    each = λ i l.
-        let h : middle (length run) + 1 + i < length run = omega (arith, right_length run) in
-        in_right (rw (right_at run i) (w.each (middle (length run) + 1 + i) h)) (axis k j) _
-        (before_le at (axis k j) _ _ (p.after_node i l));
-  }
 
 -- Boxes with the same corners hold the same runs, and their branches' boxes have the same corners.
 module _ {k : ℕ} {b c : Box} (w : Alike k b c) where

@@ -2,20 +2,18 @@
 -- The tests read the live ones, so both are refused alike; where they are done, the slots hold live numbers, and all that is told of those is told alike.
 use Rattle.std.specs.Prelude.{◌≡◌, true, ℤ}
 use Rattle.std.proofs.Math.Path.{refl, ap, fun_ext}
-use Rattle.std.proofs.Common.{sym, ◌∙◌, arith}
-use Rattle.std.proofs.Math.Bool.{Bool}
+use Rattle.std.proofs.Common.{arith}
 use mathlib.Core.List.{List, ◌++◌}
 use Prim.Native.Nat.{ℕ, zero, suc, ◌*◌, ◌≤◌, ◌<◌}
 use Rattle.std.proofs.Math.ListN.{drop}
 use Rattle.std.proofs.Math.IntN.{pos}
-use Rattle.terms.specs.Tests.{bit, every}
+use Rattle.terms.specs.Tests.{every}
 use Rattle.terms.specs.Lent.{Stock, Order, Faces, Regions, stock}
 use Rattle.terms.specs.Live.{is_live}
 use Rattle.terms.specs.Points.{coord, point_of, belongs_to, slots_of}
 use Rattle.terms.specs.Tree.{each_once, is_tree, shelf_run, is_shelf}
 use Rattle.terms.specs.Region.{Region, region}
 use Rattle.terms.specs.Visits.{visits}
-use Rattle.terms.specs.declared.Arranging.{Arranging}
 use Rattle.terms.specs.declared.Screening.{Screening}
 use Rattle.terms.specs.Lists.{insides, places}
 use Rattle.terms.specs.Screen.{has_first, first, screen_visits}
@@ -24,7 +22,7 @@ use Rattle.terms.specs.EndToEnd.{end_to_end}
 use Rattle.terms.specs.RegionFaces.{faces_of_region}
 use Rattle.terms.specs.ThreeCounts.{counts_of}
 use Rattle.terms.specs.Refusals.{first_of, if_done}
-use Rattle.terms.specs.ArrangeCall.{arrange_code, arrange_answer, ArrangedAs}
+use Rattle.terms.specs.ArrangeCall.{arrange_code}
 use Rattle.terms.specs.ListCall.{listing, list_code, list_answer, list_after}
 use Rattle.terms.specs.ScreenCall.{screen_code, screen_answer}
 use Rattle.terms.specs.ExplainCall.{explaining, explain_code, explain_answer}
@@ -33,8 +31,6 @@ use Rattle.theory.specs.Flags.{and_true}
 use Rattle.theory.specs.PointsThatBelong.{same_tree}
 use Rattle.theory.specs.AnswersAlike.{same_insides, same_outsides, same_open_slots, same_inside_slots, same_reason}
 use Rattle.theory.specs.MembersAlike.{MembersAlike, in_range_alike}
-use Rattle.theory.specs.ArrangeCall.{arrange_passed, arranged_code}
-use Rattle.theory.proofs.ArrangeCall.{arranged_once}
 use Rattle.theory.specs.ListCall.{list_passed}
 use Rattle.theory.specs.ScreenCall.{screen_passed}
 use Rattle.theory.specs.ExplainCall.{explain_passed}
@@ -51,7 +47,7 @@ module _ {k : ℕ} (n : ℕ) (live : List ℕ) {points others : List ℤ} (w : M
   agree p d e l = (w.same p e).same d l
 
   -- Both orders are the shelf, or neither.
-  shelf_alike : 1 ≤ k → (o : Order) → is_shelf (stock k n points live) o ≡ is_shelf (stock k n others live) o
+  pub shelf_alike : 1 ≤ k → (o : Order) → is_shelf (stock k n points live) o ≡ is_shelf (stock k n others live) o
   shelf_alike some o = same_tree k some (is_live n live) (coord k points) (coord k others) agree n (shelf_run (stock k n points live) o)
 
   -- What is told of a run of live numbers.
@@ -76,7 +72,7 @@ module _ {k : ℕ} (n : ℕ) (live : List ℕ) {points others : List ℤ} (w : M
 -- ---- the tests
 -- Each call is refused alike. Where k is 0 both are refused by 1.
 module _ (n : ℕ) (live : List ℕ) (o : Order) where
-  arrange_code_alike : (k : ℕ) {points others : List ℤ} → MembersAlike k (is_live n live) points others
+  pub arrange_code_alike : (k : ℕ) {points others : List ℤ} → MembersAlike k (is_live n live) points others
       → arrange_code (stock k n points live) o ≡ arrange_code (stock k n others live) o
   unfolding arrange_code
   arrange_code_alike k w = rw (w.sizes, in_range_alike w n)
@@ -112,27 +108,6 @@ module _ (k n : ℕ) (live : List ℕ) {points others : List ℤ} (w : MembersAl
 
   abbrev t : Stock
   t = stock k n others live
-
-  arrange_answer_alike : arrange_answer s o ≡ arrange_answer t o
-  unfolding arrange_answer
-  arrange_answer_alike = rw (arrange_code_alike n live o k w) (go (arrange_code t o) refl)
-    where
-      said : ℕ → Bool → Arranging
-      said c shelf = if_done c (record { code = 0; already = bit shelf }) (record { code = c; already = 0 })
-
-      go : (c : ℕ) → arrange_code t o ≡ c → said c (is_shelf s o) ≡ said c (is_shelf t o)
-      go zero z = ap (said zero) (shelf_alike n live w (arrange_passed t o z).tested.some o)
-      go (suc c) z = refl
-
-  -- Done, both orders are the shelf.
-  pub arranged_alike : {a b : Arranging} {x y : Order} → ArrangedAs s o a x → ArrangedAs t o b y → (a ≡ b) × (x.slots ≡ y.slots)
-  arranged_alike {y = y} e f = arranged_once e (record {
-    answered = f.answered ∙ sym arrange_answer_alike;
-    size = f.size;
-    arranged = λ z. shelf_alike n live w (arrange_passed t o (sym (arranged_code f) ∙ z)).tested.some y ∙ f.arranged z;
-    later = f.later;
-    refused = f.refused;
-  })
 
   module _ (f : Faces) (list : List ℕ) where
     -- Done, the slots hold live numbers.

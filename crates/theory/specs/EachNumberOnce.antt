@@ -1,10 +1,10 @@
--- What "each number once" says, and three ways to see it: number by number, as the Same numbers as those that belong, and by length alone.
+-- What "each number once" says, and two ways to see it: number by number, and as the Same numbers as those that belong.
 -- Which numbers belong stays a variable test; only that they are below m is asked, and the shelf of all numbers below n stands at the end.
 use Rattle.std.specs.Prelude.{◌≡◌, refl, Bool, false, ◌&&◌, List, ltb}
 use Rattle.std.proofs.Common.{sym, ap, ◌∙◌, arith}
 use Rattle.std.proofs.Math.Path.{fun_ext}
 use Rattle.std.proofs.Math.Bool.{true}
-use Prim.Native.Nat.{ℕ, ◌≤◌, ◌<◌}
+use Prim.Native.Nat.{ℕ, ◌<◌}
 use Rattle.std.proofs.Math.ListN.{length, get_or}
 use Rattle.std.proofs.Math.Dec.{eqb}
 use borrow.Author.Tests.{eqb-true, eq-eqb, ltb-true, lt-ltb}
@@ -13,7 +13,7 @@ use Rattle.terms.specs.Points.{below}
 use Rattle.terms.specs.Tree.{members, each_once}
 use Rattle.theory.specs.Flags.{same_test, and_true, true_and}
 use Rattle.theory.specs.Counting.{Same, Distinct, every_at, at_every, bit_le, same_every, same_length, same_sym, same_trans, same_distinct}
-use Rattle.theory.specs.SameByNumber.{same_by_number, same_by_length, every_counted, count_none}
+use Rattle.theory.specs.SameByNumber.{same_by_number, every_counted, count_none}
 use Rattle.theory.specs.RisingNumbers.{length_rising, members_belong, members_below, count_members, counted_all, members_shelf}
 
 -- Only numbers below m belong. Otherwise a run could hold a number from m on any number of times.
@@ -27,7 +27,7 @@ pub record EachOnce (belongs : ℕ → Bool) (m : ℕ) (run : List ℕ) : Type 0
 
 module _ (belongs : ℕ → Bool) (m : ℕ) where
   -- A member is counted once among the members, and a number that does not belong never.
-  member_once : (p : ℕ) → p < m → belongs p ≡ true → count (eqb p) (members belongs m) ≡ 1
+  pub member_once : (p : ℕ) → p < m → belongs p ≡ true → count (eqb p) (members belongs m) ≡ 1
   member_once p l e = count_members belongs m p ∙ ap bit (true_and e (lt-ltb p m l))
 
   stranger_never : (p : ℕ) → belongs p ≡ false → count (eqb p) (members belongs m) ≡ 0
@@ -93,15 +93,6 @@ module _ (belongs : ℕ → Bool) (m : ℕ) where
   pub each_same : BelongBelow belongs m → {xs ys : List ℕ} → each_once belongs m xs ≡ true → each_once belongs m ys ≡ true → Same xs ys
   each_same under a b = same_trans (each_members under a) (same_sym (each_members under b))
 
-  -- As many places as numbers that belong, all belonging and pairwise different: each number once.
-  pub distinct_each : BelongBelow belongs m → {run : List ℕ} → length run ≡ length (members belongs m) → every belongs run ≡ true → Distinct run
-      → each_once belongs m run ≡ true
-  distinct_each under {run} size all d = members_each (same_by_length (λ v. go v (belongs v) refl) size)
-    where
-      go : (v : ℕ) (t : Bool) → belongs v ≡ t → count (eqb v) run ≤ count (eqb v) (members belongs m)
-      go v true b = omega (arith, d.once v, member_once v (under v b) b)
-      go v false b = omega (arith, count_none belongs run v all b)
-
   -- Where as many belong as there are numbers below m, a number belongs exactly if it is below m.
   pub full_below : BelongBelow belongs m → count belongs (rising 0 m) ≡ m → belongs ≡ below m
   full_below under full = fun_ext (λ p. same_test (λ e. lt-ltb p m (under p e)) (λ e. counted_all belongs m full p (ltb-true p m e)))
@@ -124,9 +115,3 @@ shelf_length n run e = same_length (shelf_rising n e) ∙ length_rising 0 n
 
 pub shelf_below : (n : ℕ) (run : List ℕ) → each_once (below n) n run ≡ true → (i : ℕ) → i < length run → get_or run i 0 < n
 shelf_below n run e i l = ltb-true (get_or run i 0) n ((each_once_lem (below n) n e).belong i l)
-
--- n places, all below n and pairwise different.
-pub distinct_shelf : (n : ℕ) {run : List ℕ} → length run ≡ n → ((i : ℕ) → i < length run → get_or run i 0 < n) → Distinct run → each_once (below n) n run ≡ true
-distinct_shelf n {run} size low d =
-    distinct_each (below n) n (below_under n) (size ∙ sym (ap length (members_shelf n) ∙ length_rising 0 n))
-    (at_every (below n) 0 run (λ i l. lt-ltb (get_or run i 0) n (low i l))) d

@@ -8,12 +8,10 @@ use Rattle.terms.specs.declared.Reason.{Reason}
 use Rattle.terms.specs.declared.Reason.TheVariants.{InsideWithBranch, InsideByItself, OutsideWithBranch, OutsideByItself}
 use Rattle.terms.specs.Tests.{bit, count}
 use Rattle.terms.specs.Lent.{Stock, Order, Faces}
-use Rattle.terms.specs.Points.{point_of, belongs_to, slots_of}
+use Rattle.terms.specs.Points.{belongs_to, slots_of}
 use Rattle.terms.specs.Tree.{each_once, is_tree, shelf_run, is_shelf}
-use Rattle.terms.specs.Region.{Region, region, inside}
+use Rattle.terms.specs.Region.{Region, inside}
 use Rattle.terms.specs.Lists.{insides}
-use Rattle.terms.specs.Reason.{InRun, ReasonFor}
-use Rattle.terms.specs.Explain.{reason_of}
 use Rattle.terms.specs.Refusals.{first_of, dead_refusals, if_done}
 use Rattle.terms.specs.ScreenCall.{screen_refusals, screen_code}
 use Rattle.terms.specs.ListCall.{list_code}
@@ -21,13 +19,11 @@ use Rattle.terms.specs.ExplainCall.{explain_refusals, explaining, explain_code, 
 use Rattle.theory.specs.Flags.{and_true}
 use Rattle.theory.specs.Counting.{count_keep, count_same, count_no}
 use Rattle.theory.specs.EachNumberOnce.{each_once_lem}
-use Rattle.theory.specs.StockNumbers.{stock_under}
 use Rattle.theory.specs.FirstRefusal.{FirstHeld, no_zero, first_held, first_zero, passed_parts, first_skip, first_stop}
 use Rattle.theory.specs.RefusalsPassed.{dead_passed}
 use Rattle.theory.specs.ArrangeCall.{room_same}
 use Rattle.theory.specs.ScreenCall.{ScreenPassed, screen_tests_passed, screen_first, screen_code_is_list_code, screen_nine}
 use Rattle.theory.specs.Reasons.{says_inside, says_itself}
-use Rattle.theory.proofs.Reasons.{tree_run_lem, number_stands, reason_true, because_only}
 
 -- The answer's number says inside: 1 or 2.
 abbrev pub inside_number : ℕ → Bool
@@ -103,25 +99,6 @@ module _ (s : Stock) (o : Order) (f : Faces) (p : ℕ) where
       go : (c : ℕ) → screen_code s o f ≡ c → first_of (explain_refusals s o f p) ≡ if_done c 17 c
       go zero e = first_skip (screen_refusals s o f) (dead_refusals s.n p s.live) ((screen_first s o f).done e) ∙ rw b refl
       go (suc c) e = first_stop (screen_refusals s o f) (dead_refusals s.n p s.live) (λ z. absurd (omega (arith, e, z))) ∙ e
-
-  module _ (w : ExplainPassed s o f p) where
-    abbrev g : Region
-    g = region s.k f
-
-    shelf : is_tree g.k (point_of s) (belongs_to s) s.n (shelf_run s o) ≡ true
-    shelf = w.screened.shelf
-
-    -- Every picture of an accepted call stands in a slot,
-    pub picture_stands : InRun (shelf_run s o) p
-    picture_stands = number_stands g (point_of s) (belongs_to s) s.n (shelf_run s o) shelf p (stock_under s p w.belongs) w.belongs
-
-    -- and has a reason, which is the one that is computed,
-    pub picture_reason : ReasonFor g (point_of s) (shelf_run s o) p (reason_of g (point_of s) (shelf_run s o) p)
-    picture_reason = reason_true g (point_of s) (shelf_run s o) (tree_run_lem g (point_of s) (belongs_to s) s.n (shelf_run s o) shelf) picture_stands.1
-
-    -- and no other.
-    pub picture_reason_only : (why : Reason) → ReasonFor g (point_of s) (shelf_run s o) p why → why ≡ reason_of g (point_of s) (shelf_run s o) p
-    picture_reason_only why z = because_only g (point_of s) (shelf_run s o) (tree_run_lem g (point_of s) (belongs_to s) s.n (shelf_run s o) shelf) z.stands why z.because
 
 -- "The list calls still refuse a wrong order": where the call is done with one order, it gives 9 with any other that has room and is not the shelf.
 pub explain_nine : (s : Stock) (o q : Order) (f : Faces) (p : ℕ) → explain_code s q f p ≡ 0 → slots_of s ≤ length o.slots → is_shelf s o ≡ false → explain_code s o f p ≡ 9

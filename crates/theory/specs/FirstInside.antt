@@ -2,7 +2,7 @@
 -- passes; else all of the first are passed over.
 use Rattle.std.specs.Prelude.{◌≡◌, Bool, take, drop}
 use Rattle.std.proofs.Math.Path.{refl, ap}
-use Rattle.std.proofs.Common.{◌∙◌, take-append-drop}
+use Rattle.std.proofs.Common.{take-append-drop}
 use Rattle.std.proofs.Math.Bool.{true, false}
 use mathlib.Core.List.{List, [], ◌∷◌, ◌++◌, map, append-nil}
 use Prim.Native.Nat.{ℕ, zero, suc, ◌+◌, ◌≤◌}

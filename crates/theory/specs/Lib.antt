@@ -35,14 +35,11 @@ pub mod Containment
 pub mod PointsAlike
 pub mod SumBound
 pub mod BoundBySteps
-pub mod SquareBound
 pub mod SlotBySlot
 pub mod TightBoxes
-pub mod TightWithinBranch
 pub mod TightVisits
 pub mod Summary
 pub mod FaceLentAlone
-pub mod VisitsOfTheListCall
 pub mod FacesSplit
 pub mod ClosedFaces
 pub mod MirroredFaces

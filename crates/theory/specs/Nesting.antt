@@ -1,25 +1,17 @@
--- A box within a settled box is settled in the same way, and so is every slot below a settled branch.
+-- A box within a settled box is settled in the same way.
 -- The corner of the inner box is no further out than the outer's, so its sum of products is not either; all is said face by face.
-use Rattle.std.specs.Prelude.{◌≡◌, refl, true, false, ◌⊎◌, List, [], ◌∷◌, ℕ, zero, suc, ◌<◌, ℤ, pos, negsuc, ◌*ℤ◌, ◌≤ℤ◌}
-use Rattle.std.proofs.Common.{ap, arith}
+use Rattle.std.specs.Prelude.{◌≡◌, true, false, ◌⊎◌, ℕ, ◌<◌, ℤ, pos, negsuc, ◌*ℤ◌, ◌≤ℤ◌}
 use Rattle.std.proofs.Math.Logic.{inl, inr, ⊎_elim}
 use Rattle.whole.proofs.Parts.{ints}
 use Rattle.whole.proofs.Products.{mul_mono, mul_anti}
 use Rattle.whole.proofs.IndexedSum.{sum_mono}
-use Rattle.terms.specs.Tests.{bit, count, every, any_to}
-use Rattle.terms.specs.Run.{axis, node, lefts, rights}
-use Rattle.terms.specs.Tree.{tree_run}
-use Rattle.terms.specs.Box.{Box, boxes}
+use Rattle.terms.specs.Tests.{any_to}
+use Rattle.terms.specs.Box.{Box}
 use Rattle.terms.specs.Region.{Region, reach, above, by_sign, against, along, wholly_above, wholly_below, is_settled, is_open}
-use Rattle.theory.specs.Flags.{clash, contra, same_test, not_true, not_false, true_not, false_not, false_or, or_false, or_true, true_or, or_yes}
+use Rattle.theory.specs.Flags.{contra, same_test, not_true, not_false, true_not, false_not, false_or, or_false, or_true, true_or, or_yes}
 use Rattle.theory.specs.AllAndAny.{OneBelow, all_each, each_all, any_none, none_any, any_true, all_false, one_all_false, one_any_true}
-use Rattle.theory.specs.Counting.{count_every}
-use Rattle.theory.specs.RunParts.{Parts, parts}
 use Rattle.theory.specs.AboveIsUpward.{above_up}
-use Rattle.theory.specs.Boxes.{In, Nested, Alike, alike_nested, alike_sym, Held}
-use Rattle.theory.specs.BoxLaws.{left_nested, right_nested, held_node}
-use Rattle.theory.proofs.BoxLaws.{held_left, held_right}
-use Rattle.theory.specs.BoxFuel.{count_boxes}
+use Rattle.theory.specs.Boxes.{Nested, Alike, alike_nested, alike_sym}
 
 -- A product grows when the coordinate chosen by the component's sign moves along it.
 by_sign_mono : (n : ℤ) {a b c d : ℤ} → a ≤ℤ c → d ≤ℤ b → (n *ℤ by_sign n a b) ≤ℤ (n *ℤ by_sign n c d)
@@ -97,27 +89,3 @@ module _ (g : Region) {b c : Box} (s : Alike g.k b c) where
       same_test
       (λ o. of_open (open_nested g (alike_nested s) (to_open o)))
       (λ o. of_open (open_nested g (alike_nested (alike_sym s)) (to_open o)))
-
--- "The count must still be the one above": below a settled branch no slot is open, so what is not walked adds nothing.
-pub settled_none_open : (e f : ℕ) (g : Region) (at : ℕ → ℕ → ℤ) (j : ℕ) (run : List ℕ) (b : Box) → tree_run e g.k at j run ≡ true → Held g.k at b run
-    → is_open g b ≡ false → count (is_open g) (boxes f g.k at j run b) ≡ 0
-unfolding boxes count tree_run
-settled_none_open e zero g at j run b t w s = refl
-settled_none_open e (suc f) g at j [] b t w s = refl
-settled_none_open zero (suc f) g at j (x ∷ xs) b t w s = clash t refl
-settled_none_open (suc e) (suc f) g at j (x ∷ xs) b t w s =
-    let p : Parts e g.k at j (x ∷ xs) = parts x xs t in
-    let m : In g.k b (at (node (x ∷ xs))) = held_node w (omega arith) in
-    omega (
-      arith,
-      count_boxes (is_open g) f g.k at j (x ∷ xs) b (omega arith),
-      settled_none_open e f g at (suc j) (lefts (x ∷ xs)) _ p.left (held_left p w) (settled_nested g (left_nested m (axis g.k j)) s),
-      settled_none_open e f g at (suc j) (rights (x ∷ xs)) _ p.right (held_right p w) (settled_nested g (right_nested m (axis g.k j)) s),
-      ap bit s,
-    )
-
--- Slot by slot.
-pub settled_every_settled : (e f : ℕ) (g : Region) (at : ℕ → ℕ → ℤ) (j : ℕ) (run : List ℕ) (b : Box) → tree_run e g.k at j run ≡ true → Held g.k at b run
-    → is_open g b ≡ false → every (is_settled g) (boxes f g.k at j run b) ≡ true
-unfolding is_open
-settled_every_settled e f g at j run b t w s = count_every (is_settled g) (boxes f g.k at j run b) (settled_none_open e f g at j run b t w s)

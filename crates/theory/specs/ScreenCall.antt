@@ -1,6 +1,6 @@
 -- The screen call: the first refusal is its number, what it has tested where that is 0, what it reads of the order, and how its answer stands to the list call's.
 -- The screen's visits are a first part of the open slots, and all of them where none is inside.
-use Rattle.std.specs.Prelude.{◌≡◌, true, false, List, [], ◌++◌, ℕ, ◌+◌, ◌≤◌, length, replicate, ℤ}
+use Rattle.std.specs.Prelude.{◌≡◌, true, false, List, [], ◌++◌, ℕ, ◌≤◌, length, replicate, ℤ}
 use Rattle.std.proofs.Math.Path.{refl}
 use Rattle.std.proofs.Common.{sym, ◌∙◌, arith, le-ltb}
 use Rattle.std.proofs.Math.ListN.{take, length-map}

@@ -1,22 +1,17 @@
--- The visits by tight boxes: never more than those by branch boxes, so that both bounds hold of them too.
-use Rattle.std.specs.Prelude.{◌≡◌, true, false, List, [], ◌∷◌, ℕ, ◌*◌, ◌≤◌, ◌<◌, length, ℤ}
+-- The visits by tight boxes: they are the slots whose tight box is open, no more than there are slots, and at most the sum over the faces, each alone.
+use Rattle.std.specs.Prelude.{◌≡◌, false, List, [], ◌∷◌, ℕ, ◌≤◌, length, ℤ}
 use Rattle.std.proofs.Common.{arith}
 use Rattle.whole.specs.IndexedTotal.{total_to}
 use Rattle.whole.proofs.IndexedTotal.{total_same}
 use Rattle.terms.specs.Tests.{count}
-use Rattle.terms.specs.Tree.{tree_run}
 use Rattle.terms.specs.Box.{least_from, greatest_from, root_box}
 use Rattle.terms.specs.TightBox.{tight_box, shelf_tight_boxes}
 use Rattle.terms.specs.Region.{Region, alone, is_open}
-use Rattle.terms.specs.Visits.{visits, tight_open_slots, tight_visits}
-use Rattle.terms.specs.Bound.{S, is_square}
+use Rattle.terms.specs.Visits.{tight_open_slots, tight_visits}
 use Rattle.theory.specs.Counting.{count_map, count_not}
-use Rattle.theory.specs.BoxFuel.{visits_count}
 use Rattle.theory.specs.Containment.{dot_settled}
-use Rattle.theory.specs.SumBound.{open_count_le_faces, visits_le_faces}
-use Rattle.theory.proofs.SquareBound.{square_visits_le_S}
+use Rattle.theory.specs.SumBound.{open_count_le_faces}
 use Rattle.theory.specs.TightBoxes.{tights_length}
-use Rattle.theory.proofs.TightWithinBranch.{count_nested, shelf_nested}
 
 -- "Its visits are the slots whose tight box is open."
 pub tight_visits_count : (g : Region) (at : ℕ → ℕ → ℤ) (run : List ℕ) → tight_visits g at run ≡ count (is_open g) (shelf_tight_boxes at run)
@@ -40,18 +35,6 @@ tight_visits_le_faces g at run = omega (
   open_count_le_faces g (shelf_tight_boxes at run),
   total_same g.h (λ i. tight_visits (alone g i) at run) (λ i. count (is_open (alone g i)) (shelf_tight_boxes at run)) (λ i l. tight_visits_count (alone g i) at run),
 )
-
-module _ (g : Region) (at : ℕ → ℕ → ℤ) (run : List ℕ) (tree : tree_run (length run) g.k at 0 run ≡ true) where
-  -- They "are proved never to be more than the first's".
-  pub tight_visits_le : tight_visits g at run ≤ visits g at run
-  tight_visits_le = omega (arith, tight_visits_count g at run, visits_count g at run, count_nested g (shelf_nested at run g.k tree))
-
-  -- "So demand 3's bounds hold too": the sum over the faces of the visits by branch boxes, and h times S where all faces are square.
-  pub tight_visits_le_branch_faces : tight_visits g at run ≤ total_to g.h (λ i. visits (alone g i) at run)
-  tight_visits_le_branch_faces = omega (arith, tight_visits_le, visits_le_faces g at run)
-
-  pub tight_visits_le_S : 0 < g.k → ((i : ℕ) → i < g.h → is_square g i ≡ true) → tight_visits g at run ≤ g.h * S (length run) g.k
-  tight_visits_le_S some square = omega (arith, tight_visits_le, square_visits_le_S g at run some tree square)
 
 -- A slot that is alone in its branch is never open: its tight box is its point.
 pub alone_settled : (g : Region) (at : ℕ → ℕ → ℤ) (run : List ℕ) → length run ≡ 1 → is_open g (tight_box at run) ≡ false

@@ -1,0 +1,17 @@
+pub mod EachNumberOnce
+pub mod UniqueOrder
+pub mod ArrangeCall
+pub mod BoxLaws
+pub mod Nesting
+pub mod BoundBySteps
+pub mod SquareBound
+pub mod TightWithinBranch
+pub mod TightVisits
+pub mod TightVisitBounds
+pub mod VisitsOfTheListCall
+pub mod Way
+pub mod ReasonOnTheWay
+pub mod Reasons
+pub mod ExplainCall
+pub mod TreeIsDistinct
+pub mod DeadCoordinates
