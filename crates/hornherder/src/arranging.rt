@@ -11,8 +11,7 @@ use terms::Arranging;
 
 // Arranges the first v places of the order as the tree of the v live points, and says whether they were it already; then nothing is written. A refusal
 // has its number and 0, and writes nothing.
-#[unsafe(no_mangle)]
-pub extern "C" fn hornherder_arrange(
+pub fn hornherder_arrange(
     k: usize,
     n: usize,
     points: &[i32],

@@ -14,8 +14,7 @@ use terms::{Explaining, Reason};
 
 // Why a picture is inside or outside a region: one of four reasons with a slot, and for outside a face and the picture's margin to it. A refusal has its
 // number and zeros.
-#[unsafe(no_mangle)]
-pub extern "C" fn hornherder_explain(
+pub fn hornherder_explain(
     k: usize,
     n: usize,
     h: usize,

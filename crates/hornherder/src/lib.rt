@@ -1,6 +1,6 @@
 // The public calls, a file for each: arrange, list, list of several regions, screen, explain, take, withdraw, the test of one point, and the three that make
-// a point from a reading. Each makes its refusal tests first, then does the work. These eleven exports and the version are all that is public; they take any
-// numbers and any lent memory.
+// a point from a reading. Each makes its refusal tests first, then does the work. These eleven and the version are all that programs call; they take any
+// numbers and any lent memory. Crate hornherder_c hands them to C.
 #![tactic(auto)]
 
 pub mod arranging;
@@ -14,5 +14,5 @@ mod ranges;
 mod refuse;
 pub mod screen;
 pub mod take;
-mod version;
+pub mod version;
 pub mod withdraw;

@@ -15,8 +15,7 @@ use walk::walk;
 
 // The two lists of a shelf against a region: inside from the front of the list, outside backwards from place v - 1, with their lengths and the
 // visits. A refusal has its number and zeros, and writes nothing.
-#[unsafe(no_mangle)]
-pub extern "C" fn hornherder_list(
+pub fn hornherder_list(
     k: usize,
     n: usize,
     h: usize,

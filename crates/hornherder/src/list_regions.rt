@@ -15,8 +15,7 @@ use regions_walk::walk_regions;
 
 // The two lists of a shelf against each of several regions, region after region: v places for each in the list buffer, and three counts for each in the counts
 // buffer: inside, outside, visits. The order is checked once. Returns 0, or the number of a refusal, which writes nothing.
-#[unsafe(no_mangle)]
-pub extern "C" fn hornherder_list_regions(
+pub fn hornherder_list_regions(
     k: usize,
     n: usize,
     regions: usize,

@@ -12,8 +12,7 @@ use terms::Placing;
 
 // Whether one point is inside a region, 1 or 0, and where there are faces its least margin with the lowest-numbered face that has it. A refusal has
 // its number and zeros.
-#[unsafe(no_mangle)]
-pub extern "C" fn hornherder_place(
+pub fn hornherder_place(
     k: usize,
     h: usize,
     point: &[i32],

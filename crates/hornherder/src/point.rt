@@ -8,8 +8,7 @@ use reading::convert;
 use terms::{Colour, Given, Making, Reading, Triple};
 
 // A colour's three values as a point: made is 1 beside the number 0. A refusal has its number and 0, and writes nothing.
-#[unsafe(no_mangle)]
-pub extern "C" fn hornherder_point_from_colour(
+pub fn hornherder_point_from_colour(
     first: f32,
     second: f32,
     third: f32,
@@ -26,16 +25,14 @@ pub extern "C" fn hornherder_point_from_colour(
 }
 
 // A grey's one value as a point: its number, then 0 and 0.
-#[unsafe(no_mangle)]
-pub extern "C" fn hornherder_point_from_grey(value: f32, place: &mut [i32]) -> Making
+pub fn hornherder_point_from_grey(value: f32, place: &mut [i32]) -> Making
     ensures { MadeAs (grey value) place.old result place.new }
 {
     point_from(Reading::Grey(value), place)
 }
 
 // Nothing measured: no point, made is 0, and nothing is written.
-#[unsafe(no_mangle)]
-pub extern "C" fn hornherder_point_from_nothing(place: &mut [i32]) -> Making
+pub fn hornherder_point_from_nothing(place: &mut [i32]) -> Making
     ensures { MadeAs nothing place.old result place.new }
 {
     point_from(Reading::Nothing, place)

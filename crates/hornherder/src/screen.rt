@@ -13,8 +13,7 @@ use terms::Screening;
 
 // Whether any picture is inside a region: the inside number in the lowest slot, or none, and the visits up to there. A refusal has its number and
 // zeros.
-#[unsafe(no_mangle)]
-pub extern "C" fn hornherder_screen(
+pub fn hornherder_screen(
     k: usize,
     n: usize,
     h: usize,

@@ -11,8 +11,7 @@ use crate::refuse::{
 use terms::Taking;
 
 // Writes a point at the lowest dead number, sets its live byte, and answers the number. A refusal has its number and 0, and writes nothing.
-#[unsafe(no_mangle)]
-pub extern "C" fn hornherder_take(
+pub fn hornherder_take(
     k: usize,
     n: usize,
     points: &mut [i32],

@@ -5,8 +5,7 @@ ghost use Rattle.hornherder.specs.First.{First};
 use crate::refuse::{dead_refusal, live_refusal, size_refusal};
 
 // Clears a live number's byte. Returns 0, or the number of a refusal, which writes nothing.
-#[unsafe(no_mangle)]
-pub extern "C" fn hornherder_withdraw(n: usize, number: u32, live: &mut [u8]) -> u32
+pub fn hornherder_withdraw(n: usize, number: u32, live: &mut [u8]) -> u32
     ensures { WithdrawnAs n number live.old result live.new }
 {
     let code = withdraw_refusal(n, number, live);
