@@ -31,8 +31,8 @@ pub fn coordinate(k: usize, points: &[i32], p: usize, d: usize) -> i32
 
 // Whether number p comes before number q on dimension d: by coordinate, then by number.
 pub fn before(k: usize, points: &[i32], d: usize, p: u32, q: u32) -> bool
-    requires has_point { HasPoint k points.now p }
-    requires has_point_2 { HasPoint k points.now q }
+    requires has_point_p { HasPoint k points.now p }
+    requires has_point_q { HasPoint k points.now q }
     requires d_lt_k { d < k }
     ensures { result ≡ words.before (coord k points.now) d p q }
 {

@@ -36,8 +36,8 @@ pub fn read_faces(
     offsets: &mut [i64],
 ) -> Step
     requires at_in_bounds { at ≤ length text.now }
-    requires h_in_bounds { k * h ≤ length normals.old }
-    requires h_in_bounds_2 { h ≤ length offsets.old }
+    requires normals_room { k * h ≤ length normals.old }
+    requires offsets_room { h ≤ length offsets.old }
     ensures { ReadsFaces text.now at k h normals.new offsets.new result.ok result.next }
 {
     let mut next = at;

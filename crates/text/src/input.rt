@@ -70,9 +70,9 @@ const NO_READING: Reading = Reading {
 // Reads the text: the coordinates, the components and the offsets go to the first places of what is lent. If the text is not as it must be, the lent
 // places may hold anything.
 pub fn read(text: &[u8], points: &mut [i32], normals: &mut [i32], offsets: &mut [i64]) -> Reading
-    requires in_bounds { 4608 ≤ length points.old }
-    requires in_bounds_2 { 576 ≤ length normals.old }
-    requires in_bounds_3 { 64 ≤ length offsets.old }
+    requires points_room { 4608 ≤ length points.old }
+    requires normals_room { 576 ≤ length normals.old }
+    requires offsets_room { 64 ≤ length offsets.old }
     ensures { ReadsText text.now points.new normals.new offsets.new result.ok result.k result.n result.h }
 {
     if text.len() > 32768 {

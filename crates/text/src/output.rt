@@ -34,7 +34,7 @@ fn write_word(word: &[u8], out: &mut [u8], at: usize) -> usize
 // Writes the first n numbers, a space in front of each, from a place on, and answers the place behind them.
 fn write_items(numbers: &[u32], n: usize, out: &mut [u8], at: usize) -> usize
     requires n_in_bounds { n ≤ length numbers.now }
-    requires n_in_bounds_2 { at + 11 * n ≤ length out.old }
+    requires room { at + 11 * n ≤ length out.old }
     ensures { PutItems out.old out.new at result n numbers.now }
 {
     let mut next = at;
@@ -51,7 +51,7 @@ fn write_items(numbers: &[u32], n: usize, out: &mut [u8], at: usize) -> usize
 // Writes a line, a word and the first n numbers, from a place on, and answers the place behind it.
 fn write_line(word: &[u8], numbers: &[u32], n: usize, out: &mut [u8], at: usize) -> usize
     requires n_in_bounds { n ≤ length numbers.now }
-    requires n_in_bounds_2 { at + (length word.now + (11 * n + 1)) ≤ length out.old }
+    requires room { at + (length word.now + (11 * n + 1)) ≤ length out.old }
     ensures { PutLine out.old out.new at result word.now n numbers.now }
 {
     let front = write_word(word, out, at);
@@ -80,9 +80,9 @@ pub fn write_answer(
     out: &mut [u8],
 ) -> usize
     requires n_bound { n ≤ 512 }
-    requires n_in_bounds { n ≤ length order.now }
-    requires n_in_bounds_2 { n ≤ length list.now }
-    requires in_bounds { 16384 ≤ length out.old }
+    requires n_in_order { n ≤ length order.now }
+    requires n_in_list { n ≤ length list.now }
+    requires room { 16384 ≤ length out.old }
     ensures { Printed out.new result (answer_text (take n order.now) inside outside visits (take n list.now)) }
 {
     let counts = [inside, outside, visits];

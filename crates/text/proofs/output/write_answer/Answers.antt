@@ -11,4 +11,4 @@ returns c =
     let p = c.write_line-first.ensures in
     let q = c.write_line-second.ensures in
     let r = c.write_line.ensures in
-    printed_of (put_then p.put (put_then q.put r.put)) (omega (arith, pre.n_bound, pre.in_bounds, p.short, q.short, r.short))
+    printed_of (put_then p.put (put_then q.put r.put)) (omega (arith, pre.n_bound, pre.room, p.short, q.short, r.short))
