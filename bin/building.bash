@@ -34,31 +34,54 @@ lock() {
     flock 9
 }
 
+# The folder of the toolchain that rt belongs to.
+kit() {
+    dirname "$(rt doc </dev/null)"
+}
+
+# The first place that a build writes and whoever runs this may not: where a folder is not there yet, the one that it would stand in.
+closed_place() {
+    local place
+    for place in "$root/target" "$root"/crates/*/; do
+        [ "$place" = "$root/target" ] || place+=out
+        if [ -e "$place" ]; then
+            find "$place" ! -writable -print -quit 2>/dev/null
+        else
+            find "${place%/*}" -maxdepth 0 ! -writable
+        fi
+    done | head -1
+}
+
 # may_build: ends with the reason where nothing can be proved and built in this copy of the repository.
 may_build() {
     local closed
     command -v rt >/dev/null || { tell 'it must be built first, and rt, which proves and builds it, is not on this machine'; exit 2; }
-    if [ -e "$root/target" ]; then
-        closed=$(find "$root/target" ! -writable -print -quit 2>/dev/null) || true
-    else
-        closed=$(find "$root" -maxdepth 0 ! -writable)
+    if ! "$(kit)/bin/rattle" --help >/dev/null 2>&1; then
+        tell "it must be built first, and the prover that comes with rt, a program for x86-64, does not run on this machine ($(uname -m))"
+        exit 2
     fi
+    closed=$(closed_place) || true
     [ -n "$closed" ] || return 0
     tell "it must be built first, and $(id -un) may not write $closed: let its owner build it, or build in a copy of your own"
     exit 2
 }
 
-# is_older FILE: whether a file that was built is not there, or older than a source of the crates.
+# is_older FILE: whether a file that was built is not there, or older than a source of the crates. What rt leaves in their folders out/
+# is no source.
 is_older() {
-    [ ! -e "$1" ] || [ -n "$(find "$root/crates" "$root/crates.txt" -newer "$1" -type f -print -quit 2>/dev/null)" ]
+    [ ! -e "$1" ] || [ -n "$(find "$root/crates" "$root/crates.txt" -name out -prune -o -newer "$1" -type f -print -quit 2>/dev/null)" ]
 }
 
-# shown WORDS..: runs a command and says each crate as it is done. All that the command said is shown where it fails.
+# shown WORDS..: runs a command of rt and says each crate as it is proved: rt names it, counts what it read, and then gives the verdict.
+# All that the command said is shown where it fails.
 shown() {
-    local line said=
+    local line crate= said= began=$SECONDS
     while IFS= read -r line; do
         said+=$line$'\n'
-        case $line in 'rt: '*' proved'*) tell "${line#rt: }" ;; esac
+        case $line in
+        'crate '*': '*) crate=${line#crate } && crate=${crate%%:*} ;;
+        'logic=proved '*) tell "$crate proved ($((SECONDS - began)) s)" && began=$SECONDS ;;
+        esac
     done < <("$@" </dev/null 2>&1)
     wait $! && return
     printf '%s' "$said" >&2

@@ -8,15 +8,20 @@ from pathlib import Path
 ROOT = Path(__file__).resolve().parent.parent
 LIMIT = 120
 
-# Says what rt says, but proves nothing: it takes two seconds, does the work that it is given, and fails where two run at once.
+# Says what rt says, but proves nothing: it takes two seconds, does the work that it is given in the crate's folder, and fails where two run
+# at once.
 STAND_IN = """#!/bin/sh
-[ "$1" != doc ] || { echo %(kit)s/docs/START-HERE.md; exit; }
-mkdir %(room)s/running || { echo 'rt: whole NOT PROVED (exit 1, 0 s)'; exit 1; }
-echo "$*" >>%(room)s/calls
-echo 'rt: whole proved (1 s)'
+[ "$1" != doc ] || { echo %(kit)s/START-HERE.md; exit; }
+crate=$(basename "$PWD")
+mkdir %(room)s/running || { echo 'fn whole::sum: not proved'; exit 1; }
+echo "$crate: $*" >>%(room)s/calls
+echo 'fn whole::sum: proved'
+echo 'crate whole: modules loaded=0 checked=23'
+echo 'logic=proved functions=1 sum=0 native=nat,char,string'
 sleep 2
 %(work)s
-echo 'rt: shelf proved (1 s)'
+echo "crate $crate: modules loaded=23 checked=12"
+echo 'logic=proved functions=12 target=x86_64-unknown-linux-gnu sum=0 native=nat,char,string'
 rmdir %(room)s/running
 """
 
@@ -24,7 +29,7 @@ rmdir %(room)s/running
 def real_kit():
     """The folder of the toolchain."""
     guide = subprocess.run(["rt", "doc"], stdin=subprocess.DEVNULL, capture_output=True, text=True, check=True).stdout.strip()
-    return Path(guide).parent.parent
+    return Path(guide).parent
 
 
 class Copy:
@@ -32,7 +37,7 @@ class Copy:
 
     def __init__(self, room, parts, work, kit=None):
         self.room, self.root = room, room / "copy"
-        for part in parts + ["bin", "docs/TIMES.md", "crates.txt", "crates/whole/src"]:
+        for part in parts + ["bin", "docs/TIMES.md", "crates.txt"] + ["crates/%s/src" % crate for crate in ("whole", "hornherder_c", "shelf")]:
             if (ROOT / part).is_dir():
                 shutil.copytree(ROOT / part, self.root / part, symlinks=True, ignore=shutil.ignore_patterns("target"))
             else:
@@ -53,7 +58,7 @@ class Copy:
             return subprocess.Popen([self.root / command], stdin=given, stdout=pipe, stderr=pipe, env=self.surroundings, **more)
 
     def calls(self):
-        """What rt was called with, call by call."""
+        """In which crate and with what rt was called, call by call."""
         return (self.room / "calls").read_text().splitlines()
 
 
