@@ -30,7 +30,7 @@ Leads i m least = (i ≡ 0) ⊎ (m <ℤ least)
 -- It does not: it is a later one, and its margin is not less.
 pub record Trails (i : ℕ) (m least : ℤ) : Type 0 where
   pub later : 0 < i
-  pub AtLeast : least ≤ℤ m
+  pub at_least : least ≤ℤ m
 
 pub measuring_none : (g : Region) (x : ℕ → ℤ) → Measuring g x 0 true 0 (pos 0)
 unfolding all_to
@@ -62,7 +62,7 @@ module _ {g : Region} {x : ℕ → ℤ} {i : ℕ} {within : Bool} {face : ℕ} {
 
   pub measuring_trails : {next : Bool} → next ≡ all_to (i + 1) (λ j. above g j x) → Trails i (margin g i x) least
       → Measuring g x (i + 1) next face least
-  measuring_trails e t = record { all = e; none = λ z. absurd (omega arith); some = λ z. least_at_kept (w.some t.later) t.AtLeast }
+  measuring_trails e t = record { all = e; none = λ z. absurd (omega arith); some = λ z. least_at_kept (w.some t.later) t.at_least }
 
   -- All faces are measured.
   pub measuring_done : i ≡ g.h → MeasuredAs g x within face least

@@ -37,13 +37,13 @@ module _ (g : Region) where
       strictly : lt_z (g.offset i) v ≡ lt_z (pos 0) (v -ℤ g.offset i)
       strictly = same_test (λ e. omega (flags, dif_parts v (g.offset i))) (λ e. omega (flags, dif_parts v (g.offset i)))
 
-      AtLeast : le_z (g.offset i) v ≡ le_z (pos 0) (v -ℤ g.offset i)
-      AtLeast = same_test (λ e. omega (flags, dif_parts v (g.offset i))) (λ e. omega (flags, dif_parts v (g.offset i)))
+      at_least : le_z (g.offset i) v ≡ le_z (pos 0) (v -ℤ g.offset i)
+      at_least = same_test (λ e. omega (flags, dif_parts v (g.offset i))) (λ e. omega (flags, dif_parts v (g.offset i)))
 
       go : (t : Bool)
           → cond t (lt_z (g.offset i) v) (le_z (g.offset i) v) ≡ cond t (lt_z (pos 0) (v -ℤ g.offset i)) (le_z (pos 0) (v -ℤ g.offset i))
       go true = strictly
-      go false = AtLeast
+      go false = at_least
 
   -- Inside exactly if every margin is above.
   pub inside_by_margins : (x : ℕ → ℤ) → inside g x ≡ all_to g.h (λ i. above_by g i (margin g i x))

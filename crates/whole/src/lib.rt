@@ -1,2 +1,2 @@
-// Laws of whole numbers, in specs/; there is no code.
+// Whole numbers: definitions in specs/ and their laws in proofs/; there is no code.
 #![tactic(auto)]
