@@ -25,10 +25,10 @@ pub record Rows (low high : List ℤ) : Type 0 where
   pub high_places : 4 ≤ length high
 
 -- The rows after the point x was taken in.
-pub record Widened (low high x nextLow nextHigh : List ℤ) : Type 0 where
-  pub rows : Rows nextLow nextHigh
-  pub lows : (d : ℕ) → d < 4 → lone nextLow d ≡ lesser (lone low d) (lone x d)
-  pub highs : (d : ℕ) → d < 4 → lone nextHigh d ≡ greater (lone high d) (lone x d)
+pub record Widened (low high x next_low next_high : List ℤ) : Type 0 where
+  pub rows : Rows next_low next_high
+  pub lows : (d : ℕ) → d < 4 → lone next_low d ≡ lesser (lone low d) (lone x d)
+  pub highs : (d : ℕ) → d < 4 → lone next_high d ≡ greater (lone high d) (lone x d)
 
 -- One row on the way: the places before d have what is chosen of the old number and the point's, the others have the old.
 pub record RowTo (pick : ℤ → ℤ → ℤ) (old x : List ℤ) (d : ℕ) (row : List ℤ) : Type 0 where
@@ -99,8 +99,8 @@ module _ {k : ℕ} {points : List ℤ} {order : List ℕ} where
   }
 
   -- The next slot's point is taken in.
-  pub spanned_more : {i : ℕ} {low high x nextLow nextHigh : List ℤ} → k ≤ 4 → Spanned k points order i low high
-      → ((d : ℕ) → d < k → lone x d ≡ coord k points (get_or order i 0) d) → Widened low high x nextLow nextHigh → Spanned k points order (i + 1) nextLow nextHigh
+  pub spanned_more : {i : ℕ} {low high x next_low next_high : List ℤ} → k ≤ 4 → Spanned k points order i low high
+      → ((d : ℕ) → d < k → lone x d ≡ coord k points (get_or order i 0) d) → Widened low high x next_low next_high → Spanned k points order (i + 1) next_low next_high
   spanned_more few s same w = record {
     rows = w.rows;
     lows = λ d l. rw (w.lows d (omega arith), same d l) (foremost_more least_choice (s.lows d l));

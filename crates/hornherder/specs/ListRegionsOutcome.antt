@@ -25,9 +25,9 @@ module _ (s : Stock) (o : Order) (g : Regions) (lists counts : List ℕ) {c : �
       let w = list_regions_refused s o g lists counts (λ z. m (regions_coded ∙ z)) in
       record { answered = regions_coded; listed = sym w.0; counted = sym w.1 }
 
-  pub regions_done : c ≡ 0 → length (shelf_run s o) ≡ slots_of s → {afterLists afterCounts : List ℕ}
-      → RegionsListed s.k g (point_of s) (shelf_run s o) lists counts g.region_count afterLists afterCounts
-      → RegionsListedAs s o g lists counts 0 afterLists afterCounts
+  pub regions_done : c ≡ 0 → length (shelf_run s o) ≡ slots_of s → {after_lists after_counts : List ℕ}
+      → RegionsListed s.k g (point_of s) (shelf_run s o) lists counts g.region_count after_lists after_counts
+      → RegionsListedAs s o g lists counts 0 after_lists after_counts
   unfolding lists_after counts_after
   regions_done z slots w = record {
     answered = sym z ∙ regions_coded;

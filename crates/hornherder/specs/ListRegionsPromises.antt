@@ -52,20 +52,20 @@ module _ (s : Stock) (o : Order) (g : Regions) (lists counts : List ℕ) {a : �
   list_regions_nine_for_a_wrong_order q z room other = e.answered ∙ list_regions_nine s o q g lists counts z room other
 
   -- Neither the order's places from v on nor what the buffers held before is read: only whether they have room, and what they keep.
-  module _ (q : Order) (listBuffer countsBuffer : List ℕ) (slots : shelf_run s o ≡ shelf_run s q)
-      (list-rooms : ltb (length lists) (g.region_count * slots_of s) ≡ ltb (length listBuffer) (g.region_count * slots_of s))
-      (count-rooms : ltb (length counts) (g.region_count * 3) ≡ ltb (length countsBuffer) (g.region_count * 3))
-      {b : ℕ} {v w : List ℕ} (f : RegionsListedAs s q g listBuffer countsBuffer b v w) where
+  module _ (q : Order) (list_buffer counts_buffer : List ℕ) (slots : shelf_run s o ≡ shelf_run s q)
+      (list-rooms : ltb (length lists) (g.region_count * slots_of s) ≡ ltb (length list_buffer) (g.region_count * slots_of s))
+      (count-rooms : ltb (length counts) (g.region_count * 3) ≡ ltb (length counts_buffer) (g.region_count * 3))
+      {b : ℕ} {v w : List ℕ} (f : RegionsListedAs s q g list_buffer counts_buffer b v w) where
     pub list_regions_reads_v_slots : a ≡ b
-    list_regions_reads_v_slots = e.answered ∙ list_regions_code_reads s o q g lists counts listBuffer countsBuffer slots list-rooms count-rooms ∙ sym f.answered
+    list_regions_reads_v_slots = e.answered ∙ list_regions_code_reads s o q g lists counts list_buffer counts_buffer slots list-rooms count-rooms ∙ sym f.answered
 
-    pub list_regions_leaves_the_same_lists : drop (g.region_count * slots_of s) lists ≡ drop (g.region_count * slots_of s) listBuffer → a ≡ 0 → x ≡ v
+    pub list_regions_leaves_the_same_lists : drop (g.region_count * slots_of s) lists ≡ drop (g.region_count * slots_of s) list_buffer → a ≡ 0 → x ≡ v
     list_regions_leaves_the_same_lists later done =
-        e.listed ∙ lists_after_reads s o q g lists counts listBuffer countsBuffer slots list-rooms count-rooms (sym e.answered ∙ done) later ∙ sym f.listed
+        e.listed ∙ lists_after_reads s o q g lists counts list_buffer counts_buffer slots list-rooms count-rooms (sym e.answered ∙ done) later ∙ sym f.listed
 
-    pub list_regions_leaves_the_same_counts : drop (g.region_count * 3) counts ≡ drop (g.region_count * 3) countsBuffer → a ≡ 0 → y ≡ w
+    pub list_regions_leaves_the_same_counts : drop (g.region_count * 3) counts ≡ drop (g.region_count * 3) counts_buffer → a ≡ 0 → y ≡ w
     list_regions_leaves_the_same_counts later done =
-        e.counted ∙ counts_after_reads s o q g lists counts listBuffer countsBuffer slots list-rooms count-rooms (sym e.answered ∙ done) later ∙ sym f.counted
+        e.counted ∙ counts_after_reads s o q g lists counts list_buffer counts_buffer slots list-rooms count-rooms (sym e.answered ∙ done) later ∙ sym f.counted
 
   module _ (done : a ≡ 0) where
     accepted : list_regions_code s o g lists counts ≡ 0

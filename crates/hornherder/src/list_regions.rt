@@ -1,6 +1,6 @@
 // The call that lists several regions.
 ghost use Rattle.std.specs.Prelude.{◌≡◌, ℕ, ◌≤◌, ◌<◌, length};
-ghost use Rattle.terms.specs.Lent.{stock, order_of, regions as lentRegions, regions_of};
+ghost use Rattle.terms.specs.Lent.{stock, order_of, regions as lent_regions, regions_of};
 ghost use Rattle.terms.specs.Live.{live_count};
 ghost use Rattle.terms.specs.RegionFaces.{faces_in, faces_before};
 ghost use Rattle.terms.specs.ListRegionsCall.{region_room_refusals, region_face_refusals, list_regions_refusals, RegionsListedAs};
@@ -30,7 +30,7 @@ pub fn hornherder_list_regions(
     counts: &mut [u32],
 ) -> u32
     ensures { RegionsListedAs (stock k n points.now live.now) (order_of order.now)
-        (lentRegions regions face_counts.now normals.now offsets.now marks.now)
+        (lent_regions regions face_counts.now normals.now offsets.now marks.now)
         lists.old counts.old result lists.new counts.new }
 {
     let tested = list_regions_refusal(
@@ -83,7 +83,7 @@ fn list_regions_refusal(
     counts: &[u32],
 ) -> Tested
     ensures { Found (list_regions_refusals (stock k n points.now live.now) (order_of order.now)
-        (lentRegions regions face_counts.now normals.now offsets.now marks.now)
+        (lent_regions regions face_counts.now normals.now offsets.now marks.now)
         lists.now counts.now) (live_count n live.now) result.code result.slots }
 {
     let stocked = stock_refusal(k, n, points, live);

@@ -1,5 +1,5 @@
 // The call that lists several regions.
-ghost use Rattle.terms.specs.Lent.{stock, order_of, regions as lentRegions};
+ghost use Rattle.terms.specs.Lent.{stock, order_of, regions as lent_regions};
 ghost use Rattle.terms.specs.ListRegionsCall.{RegionsListedAs};
 
 // The call of this name, for C.
@@ -19,7 +19,7 @@ pub extern "C" fn hornherder_list_regions(
     counts: &mut [u32],
 ) -> u32
     ensures { RegionsListedAs (stock k n points.now live.now) (order_of order.now)
-        (lentRegions regions face_counts.now normals.now offsets.now marks.now)
+        (lent_regions regions face_counts.now normals.now offsets.now marks.now)
         lists.old counts.old result lists.new counts.new }
 {
     hornherder::list_regions::hornherder_list_regions(

@@ -19,16 +19,16 @@ pub record RoomForRegions (regions : ℕ) (run lists counts : List ℕ) : Type 0
   pub counts_room : regions * 3 ≤ length counts
 
 -- The first r regions have their places and their counts, and behind them both buffers are as they were.
-pub record RegionsListed (k : ℕ) (g : Regions) (at : ℕ → ℕ → ℤ) (run lists counts : List ℕ) (r : ℕ) (afterLists afterCounts : List ℕ) : Type 0 where
-  pub listed : FilledTo (region_places k g at run) (length run) r lists afterLists
-  pub counted : FilledTo (region_counts k g at run) 3 r counts afterCounts
+pub record RegionsListed (k : ℕ) (g : Regions) (at : ℕ → ℕ → ℤ) (run lists counts : List ℕ) (r : ℕ) (after_lists after_counts : List ℕ) : Type 0 where
+  pub listed : FilledTo (region_places k g at run) (length run) r lists after_lists
+  pub counted : FilledTo (region_counts k g at run) 3 r counts after_counts
 
 -- Those before region r are listed, and its faces and its places start here.
-pub record Reached (k : ℕ) (g : Regions) (at : ℕ → ℕ → ℤ) (run lists counts : List ℕ) (r face place : ℕ) (afterLists afterCounts : List ℕ) : Type 0 where
+pub record Reached (k : ℕ) (g : Regions) (at : ℕ → ℕ → ℤ) (run lists counts : List ℕ) (r face place : ℕ) (after_lists after_counts : List ℕ) : Type 0 where
   pub few : r ≤ g.region_count
   pub faces : face ≡ faces_before g.face_counts r
   pub places : place ≡ r * length run
-  pub done : RegionsListed k g at run lists counts r afterLists afterCounts
+  pub done : RegionsListed k g at run lists counts r after_lists after_counts
 
 -- Room for region r: its part of each of the joined slices, and of both buffers.
 pub record Rooms (k : ℕ) (g : Regions) (run lists counts : List ℕ) (r face place : ℕ) : Type 0 where
@@ -58,8 +58,8 @@ lent_faces k g {r} components many w starts c m = rw (starts, c, m, part_length 
 pub lent_length : {A : Type 0} (xs : List A) (a c size : ℕ) → size ≡ c → a + c ≤ length xs → length (take size (drop a xs)) ≡ c
 lent_length xs a c size e l = rw e (part_length a c xs l)
 
-module _ {k : ℕ} {g : Regions} {at : ℕ → ℕ → ℤ} {run lists counts : List ℕ} {r face place : ℕ} {afterLists afterCounts : List ℕ}
-    (w : Reached k g at run lists counts r face place afterLists afterCounts) (room : RoomForRegions g.region_count run lists counts) where
+module _ {k : ℕ} {g : Regions} {at : ℕ → ℕ → ℤ} {run lists counts : List ℕ} {r face place : ℕ} {after_lists after_counts : List ℕ}
+    (w : Reached k g at run lists counts r face place after_lists after_counts) (room : RoomForRegions g.region_count run lists counts) where
   -- Each region's places are as many as the slots, and its counts are three.
   sizes : (i : ℕ) → length (region_places k g at run i) ≡ length run
   sizes i = places_length (region_at k g i) at run
@@ -68,15 +68,15 @@ module _ {k : ℕ} {g : Regions} {at : ℕ → ℕ → ℤ} {run lists counts : 
   threes i = refl
 
   -- Both buffers are as long as they were lent.
-  pub lists_length : length afterLists ≡ length lists
+  pub lists_length : length after_lists ≡ length lists
   lists_length = filled_length sizes w.done.listed (omega (arith, mul-le-mul_right (length run) w.few, room.lists_room))
 
-  pub counts_length : length afterCounts ≡ length counts
+  pub counts_length : length after_counts ≡ length counts
   counts_length = filled_length threes w.done.counted (omega (arith, w.few, room.counts_room))
 
   module _ (l : r < g.region_count) where
     -- What the next region is lent lies within the slices and the buffers.
-    pub reached_rooms : TestedRegions k g → Rooms k g run afterLists afterCounts r face place
+    pub reached_rooms : TestedRegions k g → Rooms k g run after_lists after_counts r face place
     reached_rooms tested =
         let p = tested.parts r l in
         record {
@@ -88,11 +88,11 @@ module _ {k : ℕ} {g : Regions} {at : ℕ → ℕ → ℤ} {run lists counts : 
         }
 
     -- It is listed in its part of each, and the one after it starts behind it.
-    pub reached_next : {f : Faces} {own three : List ℕ} {nextFace nextPlace : ℕ} (slots count size : ℕ) → slots ≡ length run → count ≡ r * 3 → size ≡ 3
-        → nextFace ≡ face + faces_in g.face_counts r → nextPlace ≡ place + length run → f ≡ faces_of_region k g r → RegionListed (region k f) at run own three
-        → Reached k g at run lists counts (r + 1) nextFace nextPlace
-        (take place afterLists ++ (own ++ drop slots (drop place afterLists)))
-        (take count afterCounts ++ (three ++ drop size (drop count afterCounts)))
+    pub reached_next : {f : Faces} {own three : List ℕ} {next_face next_place : ℕ} (slots count size : ℕ) → slots ≡ length run → count ≡ r * 3 → size ≡ 3
+        → next_face ≡ face + faces_in g.face_counts r → next_place ≡ place + length run → f ≡ faces_of_region k g r → RegionListed (region k f) at run own three
+        → Reached k g at run lists counts (r + 1) next_face next_place
+        (take place after_lists ++ (own ++ drop slots (drop place after_lists)))
+        (take count after_counts ++ (three ++ drop size (drop count after_counts)))
     reached_next {own = own} {three} slots count size many starts third faces places same v =
         let u = subst (λ (f : Faces). RegionListed (region k f) at run own three) same v in
         record {

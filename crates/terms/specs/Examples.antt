@@ -75,7 +75,7 @@ spans k b = map (λ d. b.low d ∷ b.high d ∷ []) (rising 0 k)
 pub data Row : Type 0 where
   arranges : Shelf → Arranging → (after : List ℕ) → Row
   lists : Shelf → Faces → (list : List ℕ) (answer : Listing) (after : List ℕ) → Row
-  lists_regions : Shelf → Regions → (listBuffer countsBuffer : List ℕ) (answer : ℕ) (afterLists afterCounts : List ℕ) → Row
+  lists_regions : Shelf → Regions → (list_buffer counts_buffer : List ℕ) (answer : ℕ) (after_lists after_counts : List ℕ) → Row
   screens : Shelf → Faces → Screening → Row
   explains : Shelf → Faces → (number : ℕ) → Explaining → Row
   reasons : Shelf → Faces → (number : ℕ) → Reason → Row
@@ -89,7 +89,7 @@ pub data Row : Type 0 where
   makes : Reading → (place : List ℤ) (answer : Making) (after : List ℤ) → Row
   lives : (n : ℕ) (live numbers : List ℕ) (many lowest : ℕ) → Row
   in_ranges : (k n : ℕ) (points : List ℤ) (live : List ℕ) → Bool → Row
-  takes : (k n : ℕ) (points : List ℤ) (live : List ℕ) (point : List ℤ) → Taking → (pointsAfter : List ℤ) (live_after : List ℕ) → Row
+  takes : (k n : ℕ) (points : List ℤ) (live : List ℕ) (point : List ℤ) → Taking → (points_after : List ℤ) (live_after : List ℕ) → Row
   withdraws : (n number : ℕ) (live : List ℕ) (answer : ℕ) (after : List ℕ) → Row
   changes : (n : ℕ) (live : List ℕ) → List Change → (may : Bool) (after : List ℕ) → Row
   summarised : Shelf → (summary : List ℤ) → Row
@@ -102,10 +102,10 @@ abbrev pub Holds : Row → Type 0
 Holds (arranges s answer after) = ArrangedAs s.lent s.arranged answer (order_of after)
 Holds (lists s f list answer after) =
     (list_answer s.lent s.arranged f list ≡ answer) × (list_after s.lent s.arranged f list ≡ after)
-Holds (lists_regions s g listBuffer countsBuffer answer afterLists afterCounts) =
-    (list_regions_code s.lent s.arranged g listBuffer countsBuffer ≡ answer)
-    × (lists_after s.lent s.arranged g listBuffer countsBuffer ≡ afterLists)
-    × (counts_after s.lent s.arranged g listBuffer countsBuffer ≡ afterCounts)
+Holds (lists_regions s g list_buffer counts_buffer answer after_lists after_counts) =
+    (list_regions_code s.lent s.arranged g list_buffer counts_buffer ≡ answer)
+    × (lists_after s.lent s.arranged g list_buffer counts_buffer ≡ after_lists)
+    × (counts_after s.lent s.arranged g list_buffer counts_buffer ≡ after_counts)
 Holds (screens s f answer) = screen_answer s.lent s.arranged f ≡ answer
 Holds (explains s f number answer) = explain_answer s.lent s.arranged f number ≡ answer
 Holds (reasons s f number why) = ReasonFor (cut s f) (point_of s.lent) (slots s) number why
@@ -120,8 +120,8 @@ Holds (makes r place answer after) = (point_answer r place ≡ answer) × (point
 Holds (lives n live numbers many lowest) =
     (members (is_live n live) n ≡ numbers) × (live_count n live ≡ many) × (lowest_dead n live ≡ lowest)
 Holds (in_ranges k n points live answer) = members_in_range k (coord k points) (is_live n live) n ≡ answer
-Holds (takes k n points live point answer pointsAfter live_after) =
-    (take_answer k n points live point ≡ answer) × (take_points k n points live point ≡ pointsAfter) × (take_live k n points live point ≡ live_after)
+Holds (takes k n points live point answer points_after live_after) =
+    (take_answer k n points live point ≡ answer) × (take_points k n points live point ≡ points_after) × (take_live k n points live point ≡ live_after)
 Holds (withdraws n number live answer after) = (withdraw_answer n number live ≡ answer) × (withdraw_live n number live ≡ after)
 Holds (changes n live cs may after) = (may_change_all n live cs ≡ may) × (changed_all n live cs ≡ after)
 Holds (summarised s numbers) = summary s.lent.k (point_of s.lent) (slots s) ≡ numbers
@@ -372,20 +372,20 @@ abbrev pub test_below_the_face : Row
 test_below_the_face = tests 2 (pos 0 ∷ pos 5 ∷ []) diagonal (measures 0 0 (minus 1))
 
 -- Shelf A's points in a longer order.
-abbrev any_aLonger : Shelf
-any_aLonger = ordered shelf_a (9 ∷ 9 ∷ 9 ∷ 9 ∷ 9 ∷ 9 ∷ 70 ∷ 71 ∷ [])
+abbrev any_a_longer : Shelf
+any_a_longer = ordered shelf_a (9 ∷ 9 ∷ 9 ∷ 9 ∷ 9 ∷ 9 ∷ 70 ∷ 71 ∷ [])
 
 -- Places from v on stay.
 abbrev pub arrange_keeps_later_places : Row
-arrange_keeps_later_places = arranges any_aLonger anew (1 ∷ 5 ∷ 0 ∷ 2 ∷ 3 ∷ 4 ∷ 70 ∷ 71 ∷ [])
+arrange_keeps_later_places = arranges any_a_longer anew (1 ∷ 5 ∷ 0 ∷ 2 ∷ 3 ∷ 4 ∷ 70 ∷ 71 ∷ [])
 
 -- Shelf A in a longer order.
-abbrev shelf_aLonger : Shelf
-shelf_aLonger = ordered shelf_a (1 ∷ 5 ∷ 0 ∷ 2 ∷ 3 ∷ 4 ∷ 1 ∷ 0 ∷ [])
+abbrev shelf_a_longer : Shelf
+shelf_a_longer = ordered shelf_a (1 ∷ 5 ∷ 0 ∷ 2 ∷ 3 ∷ 4 ∷ 1 ∷ 0 ∷ [])
 
 -- The list buffer's places from v on stay.
 abbrev pub list_keeps_later_places : Row
-list_keeps_later_places = lists shelf_aLonger two_faces (8 ∷ 8 ∷ 8 ∷ 8 ∷ 8 ∷ 8 ∷ 80 ∷ 81 ∷ []) (counts 2 4 5) (2 ∷ 4 ∷ 3 ∷ 0 ∷ 5 ∷ 1 ∷ 80 ∷ 81 ∷ [])
+list_keeps_later_places = lists shelf_a_longer two_faces (8 ∷ 8 ∷ 8 ∷ 8 ∷ 8 ∷ 8 ∷ 80 ∷ 81 ∷ []) (counts 2 4 5) (2 ∷ 4 ∷ 3 ∷ 0 ∷ 5 ∷ 1 ∷ 80 ∷ 81 ∷ [])
 
 -- Points -5, 3, -4.
 abbrev any_negatives : Shelf
@@ -1022,12 +1022,12 @@ abbrev last_below_zero : Float
 last_below_zero = float 2147483649
 
 -- 1 1/2 of a 256th.
-abbrev one_and_aHalf : Float
-one_and_aHalf = float 1002438656
+abbrev one_and_a_half : Float
+one_and_a_half = float 1002438656
 
 -- -1 1/2 of a 256th.
-abbrev minus_one_and_aHalf : Float
-minus_one_and_aHalf = float 3149922304
+abbrev minus_one_and_a_half : Float
+minus_one_and_a_half = float 3149922304
 
 -- The largest float below 128.
 abbrev last_below128 : Float
@@ -1053,8 +1053,8 @@ abbrev minus_infinite : Float
 minus_infinite = float 4286578688
 
 -- No number.
-abbrev not_aNumber : Float
-not_aNumber = float 2143289344
+abbrev not_a_number : Float
+not_a_number = float 2143289344
 
 -- The answer of a call that made a point, that made none, or that is refused.
 abbrev made : Making
@@ -1076,7 +1076,7 @@ grey_makes_a_point = makes (grey float_one) (pos 7 ∷ pos 8 ∷ pos 9 ∷ []) m
 
 -- 1 1/2 and -1 1/2 go down to 1 and -2; half of 256 is whole.
 abbrev pub colour_between_two_numbers : Row
-colour_between_two_numbers = makes (colour one_and_aHalf minus_one_and_aHalf half) (pos 7 ∷ pos 8 ∷ pos 9 ∷ []) made (pos 1 ∷ minus 2 ∷ pos 128 ∷ [])
+colour_between_two_numbers = makes (colour one_and_a_half minus_one_and_a_half half) (pos 7 ∷ pos 8 ∷ pos 9 ∷ []) made (pos 1 ∷ minus 2 ∷ pos 128 ∷ [])
 
 -- Negative zero gives 0.
 abbrev pub grey_minus_zero : Row
@@ -1114,11 +1114,11 @@ abbrev pub grey_refuses_minus_infinite : Row
 grey_refuses_minus_infinite = makes (grey minus_infinite) (pos 7 ∷ pos 8 ∷ pos 9 ∷ []) (unmade 12) (pos 7 ∷ pos 8 ∷ pos 9 ∷ [])
 
 abbrev pub grey_refuses_no_number : Row
-grey_refuses_no_number = makes (grey not_aNumber) (pos 7 ∷ pos 8 ∷ pos 9 ∷ []) (unmade 12) (pos 7 ∷ pos 8 ∷ pos 9 ∷ [])
+grey_refuses_no_number = makes (grey not_a_number) (pos 7 ∷ pos 8 ∷ pos 9 ∷ []) (unmade 12) (pos 7 ∷ pos 8 ∷ pos 9 ∷ [])
 
 -- One value that is bad, the first, the second or the last: all three places stay.
 abbrev pub colour_refuses_first : Row
-colour_refuses_first = makes (colour not_aNumber float_one half) (pos 7 ∷ pos 8 ∷ pos 9 ∷ []) (unmade 12) (pos 7 ∷ pos 8 ∷ pos 9 ∷ [])
+colour_refuses_first = makes (colour not_a_number float_one half) (pos 7 ∷ pos 8 ∷ pos 9 ∷ []) (unmade 12) (pos 7 ∷ pos 8 ∷ pos 9 ∷ [])
 
 abbrev pub colour_refuses_second : Row
 colour_refuses_second = makes (colour float_one infinite half) (pos 7 ∷ pos 8 ∷ pos 9 ∷ []) (unmade 12) (pos 7 ∷ pos 8 ∷ pos 9 ∷ [])
@@ -1136,7 +1136,7 @@ colour_refuses_length = makes (colour float_one half float128) (pos 7 ∷ pos 8 
 
 -- Four places, and no number.
 abbrev pub grey_refuses_length : Row
-grey_refuses_length = makes (grey not_aNumber) (pos 7 ∷ pos 8 ∷ pos 9 ∷ pos 10 ∷ []) (unmade 3) (pos 7 ∷ pos 8 ∷ pos 9 ∷ pos 10 ∷ [])
+grey_refuses_length = makes (grey not_a_number) (pos 7 ∷ pos 8 ∷ pos 9 ∷ pos 10 ∷ []) (unmade 3) (pos 7 ∷ pos 8 ∷ pos 9 ∷ pos 10 ∷ [])
 
 -- 3 for nothing measured too.
 abbrev pub nothing_refuses_length : Row
@@ -1226,7 +1226,7 @@ explain_on_a_closed_face = explains shelf_a diagonal 0 (inside_because 2 2)
 
 -- Places from v on are not read.
 abbrev pub explain_longer_order : Row
-explain_longer_order = explains shelf_aLonger two_faces 1 (outside_because 3 0 0 (minus 1))
+explain_longer_order = explains shelf_a_longer two_faces 1 (outside_because 3 0 0 (minus 1))
 
 -- 1 before 2.
 abbrev pub explain_refuses_dimension : Row
@@ -1306,8 +1306,8 @@ abbrev closed_regions : ℕ → List ℕ → List ℤ → List ℤ → Regions
 closed_regions count face_counts normals offsets = regions count face_counts normals offsets (replicate (length offsets) 0)
 
 -- A call on several regions that is refused: both buffers stay.
-abbrev refuses_regions : Shelf → Regions → (listBuffer countsBuffer : List ℕ) (answer : ℕ) → Row
-refuses_regions s g listBuffer countsBuffer answer = lists_regions s g listBuffer countsBuffer answer listBuffer countsBuffer
+abbrev refuses_regions : Shelf → Regions → (list_buffer counts_buffer : List ℕ) (answer : ℕ) → Row
+refuses_regions s g list_buffer counts_buffer answer = lists_regions s g list_buffer counts_buffer answer list_buffer counts_buffer
 
 -- The two faces of example 2, no faces as in example 6, and the face of example 3.
 abbrev three_regions : Regions
@@ -1315,7 +1315,7 @@ three_regions = closed_regions 3 (2 ∷ 0 ∷ 1 ∷ []) (pos 1 ∷ pos 1 ∷ min
 
 -- Region after region what those examples give; the later places of both buffers stay, and those of the order are not read.
 abbrev pub regions_three : Row
-regions_three = lists_regions shelf_aLonger three_regions (replicate 19 9) (replicate 10 8) 0
+regions_three = lists_regions shelf_a_longer three_regions (replicate 19 9) (replicate 10 8) 0
     (2 ∷ 4 ∷ 3 ∷ 0 ∷ 5 ∷ 1 ∷ 1 ∷ 5 ∷ 0 ∷ 2 ∷ 3 ∷ 4 ∷ 3 ∷ 4 ∷ 2 ∷ 0 ∷ 5 ∷ 1 ∷ 9 ∷ [])
     (2 ∷ 4 ∷ 5 ∷ 6 ∷ 0 ∷ 0 ∷ 2 ∷ 4 ∷ 3 ∷ 8 ∷ [])
 

@@ -61,7 +61,7 @@ module _ (s : Stock) (o : Order) (g : Regions) (lists counts : List ℕ) where
       counts
 
   -- What the call does: its answer, and both buffers afterwards.
-  pub record RegionsListedAs (answer : ℕ) (afterLists afterCounts : List ℕ) : Type 0 where
+  pub record RegionsListedAs (answer : ℕ) (after_lists after_counts : List ℕ) : Type 0 where
     pub answered : answer ≡ list_regions_code
-    pub listed : afterLists ≡ lists_after
-    pub counted : afterCounts ≡ counts_after
+    pub listed : after_lists ≡ lists_after
+    pub counted : after_counts ≡ counts_after

@@ -44,7 +44,7 @@ module _ (k n : ℕ) (points : List ℤ) (live : List ℕ) (point : List ℤ) wh
   take_live = if_done take_code (taken_live n live) live
 
   -- What the take call does: its answer, and the points and the live bytes afterwards.
-  pub record TakenAs (answer : Taking) (pointsAfter : List ℤ) (live_after : List ℕ) : Type 0 where
+  pub record TakenAs (answer : Taking) (points_after : List ℤ) (live_after : List ℕ) : Type 0 where
     pub answered : answer ≡ take_answer
-    pub written : pointsAfter ≡ take_points
+    pub written : points_after ≡ take_points
     pub marked : live_after ≡ take_live

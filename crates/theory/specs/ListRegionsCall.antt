@@ -173,29 +173,29 @@ list_regions_nine s o q g lists counts e room other =
     (passed_join M (C ++ F) w.counts_room (passed_join C F w.coordinates w.faces))))) in
     first_skip (stock_refusals s ++ N ++ O ++ L ++ M ++ C ++ F) (tree_refusals s o) passed ∙ rw other refl
 
-module _ (s : Stock) (o q : Order) (g : Regions) (lists counts listBuffer countsBuffer : List ℕ) (slots : shelf_run s o ≡ shelf_run s q)
-    (list-rooms : ltb (length lists) (g.region_count * slots_of s) ≡ ltb (length listBuffer) (g.region_count * slots_of s))
-    (count-rooms : ltb (length counts) (g.region_count * 3) ≡ ltb (length countsBuffer) (g.region_count * 3)) where
+module _ (s : Stock) (o q : Order) (g : Regions) (lists counts list_buffer counts_buffer : List ℕ) (slots : shelf_run s o ≡ shelf_run s q)
+    (list-rooms : ltb (length lists) (g.region_count * slots_of s) ≡ ltb (length list_buffer) (g.region_count * slots_of s))
+    (count-rooms : ltb (length counts) (g.region_count * 3) ≡ ltb (length counts_buffer) (g.region_count * 3)) where
   -- The call's number is one of the first v slots of the order and of whether the buffers have room.
-  pub list_regions_code_reads : list_regions_code s o g lists counts ≡ list_regions_code s q g listBuffer countsBuffer
+  pub list_regions_code_reads : list_regions_code s o g lists counts ≡ list_regions_code s q g list_buffer counts_buffer
   unfolding list_regions_code
   list_regions_code_reads = rw (room_same (slots_of s) o.slots q.slots slots, slots, list-rooms, count-rooms)
 
   module _ (done : list_regions_code s o g lists counts ≡ 0) where
-    other_done : list_regions_code s q g listBuffer countsBuffer ≡ 0
+    other_done : list_regions_code s q g list_buffer counts_buffer ≡ 0
     other_done = sym list_regions_code_reads ∙ done
 
     -- Done, nothing is left of what the buffers held but their later places.
-    pub lists_after_reads : drop (g.region_count * slots_of s) lists ≡ drop (g.region_count * slots_of s) listBuffer
-        → lists_after s o g lists counts ≡ lists_after s q g listBuffer countsBuffer
+    pub lists_after_reads : drop (g.region_count * slots_of s) lists ≡ drop (g.region_count * slots_of s) list_buffer
+        → lists_after s o g lists counts ≡ lists_after s q g list_buffer counts_buffer
     unfolding lists_after
     lists_after_reads later =
         rw (done, other_done, later)
-        (ap (λ (run : List ℕ). end_to_end g.region_count (region_places s.k g (point_of s) run) ++ drop (g.region_count * slots_of s) listBuffer) slots)
+        (ap (λ (run : List ℕ). end_to_end g.region_count (region_places s.k g (point_of s) run) ++ drop (g.region_count * slots_of s) list_buffer) slots)
 
-    pub counts_after_reads : drop (g.region_count * 3) counts ≡ drop (g.region_count * 3) countsBuffer
-        → counts_after s o g lists counts ≡ counts_after s q g listBuffer countsBuffer
+    pub counts_after_reads : drop (g.region_count * 3) counts ≡ drop (g.region_count * 3) counts_buffer
+        → counts_after s o g lists counts ≡ counts_after s q g list_buffer counts_buffer
     unfolding counts_after
     counts_after_reads later =
         rw (done, other_done, later)
-        (ap (λ (run : List ℕ). end_to_end g.region_count (region_counts s.k g (point_of s) run) ++ drop (g.region_count * 3) countsBuffer) slots)
+        (ap (λ (run : List ℕ). end_to_end g.region_count (region_counts s.k g (point_of s) run) ++ drop (g.region_count * 3) counts_buffer) slots)

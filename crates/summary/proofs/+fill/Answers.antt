@@ -13,10 +13,10 @@ returns-then-c-eq0 t c = none_summarised _ _ c.if-c-eq0.true c.requires
 pub fill-requires-2 : goal.fill-requires-2
 fill-requires-2 t c =
     -- There is a slot, and its numbers lie within the summary.
-    let some-slots : 0 < length c.args.order.now =
+    let some_slots : 0 < length c.args.order.now =
     omega (arith, c.if-c-eq0.false) in
     let order = c.args.order.now in
-    let some = some-slots in
+    let some = some_slots in
     let left = rw (lent_left order) at c.fill.ensures in
     let lent = lent_right order in
     (rw lent (omega (arith, c.decreases, right_length order)), rw lent (end_summarisable order c.args.summary.now c.requires some left))
@@ -24,10 +24,10 @@ fill-requires-2 t c =
 pub branch_box-own-requires : goal.branch_box-own-requires
 branch_box-own-requires t c =
     -- There is a slot, and its numbers lie within the summary.
-    let some-slots : 0 < length c.args.order.now =
+    let some_slots : 0 < length c.args.order.now =
     omega (arith, c.if-c-eq0.false) in
     let order = c.args.order.now in
-    let some = some-slots in
+    let some = some_slots in
     let left = rw (lent_left order) at c.fill.ensures in
     let right = rw (lent_right order) at c.fill-2.ensures in
     both_stored order c.args.summary.now c.requires some left right
@@ -35,10 +35,10 @@ branch_box-own-requires t c =
 pub returns : goal.returns
 returns t c =
     -- There is a slot, and its numbers lie within the summary.
-    let some-slots : 0 < length c.args.order.now =
+    let some_slots : 0 < length c.args.order.now =
     omega (arith, c.if-c-eq0.false) in
     let order = c.args.order.now in
-    let some = some-slots in
+    let some = some_slots in
     let left = rw (lent_left order) at c.fill.ensures in
     let right = rw (lent_right order) at c.fill-2.ensures in
     all_back order c.args.summary.now c.requires some left right c.branch_box-own.ensures c.write_box.ensures

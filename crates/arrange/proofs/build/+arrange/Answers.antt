@@ -34,10 +34,10 @@ arrange-requires t c =
     let placed : List ℕ =
     c.place_node.new.run in
     -- The next dimension is one of the points'.
-    let next-dimension : c.next_axis-next.result < c.args.k =
+    let next_dimension : c.next_axis-next.result < c.args.k =
     rw c.next_axis-next.ensures (mod-lt (c.args.s + 1) (omega (arith, c.requires.keyed.dimension))) in (
       omega (arith, c.decreases, length-take (place) (placed)),
-      arrangeable_front (arrangeable_same c.requires c.place_node.ensures.same) _ (place) (next-dimension),
+      arrangeable_front (arrangeable_same c.requires c.place_node.ensures.same) _ (place) (next_dimension),
     )
 
 -- The two parts came back.
@@ -59,18 +59,18 @@ arrange-requires-2 t c =
     let placed : List ℕ =
     c.place_node.new.run in
     -- The next dimension is one of the points'.
-    let next-dimension : c.next_axis-next.result < c.args.k =
+    let next_dimension : c.next_axis-next.result < c.args.k =
     rw c.next_axis-next.ensures (mod-lt (c.args.s + 1) (omega (arith, c.requires.keyed.dimension))) in
     -- The run once its first part is back: the same numbers in another order.
     let fronted : List ℕ =
     c.arrange.new.run ++ drop (place) (placed) in
-    let fronted-same : Same (fronted) c.args.run.now =
+    let fronted_same : Same (fronted) c.args.run.now =
     same_trans (same_front (placed) (place) c.arrange.ensures.same) c.place_node.ensures.same in
     let r : ℕ = place + 1 in
     let run : List ℕ = fronted in
-    let same = fronted-same in
+    let same = fronted_same in
     let z = same_length same in
-    let h = next-dimension in (
+    let h = next_dimension in (
       omega (arith, c.decreases, length-take (length run - r) (drop r run)),
       arrangeable_front (arrangeable_back (arrangeable_same c.requires same) _ r h) _ (length run - r) h,
     )

@@ -42,14 +42,14 @@ node-key-x-requires t c =
 
 pub node-branch-k-requires : goal.node-branch-k-requires
 node-branch-k-requires t c =
-    let next-below : c.next_axis-n.result < c.args.k =
+    let next_below : c.next_axis-n.result < c.args.k =
     rw c.next_axis-n.ensures (mod-lt (c.args.s + 1) (omega (arith, c.requires.descends))) in
     let a = c.args in
     let p = c.requires.descends in (
       omega (arith, c.decreases, c.requires.order_nonzero, length-take (length a.order.now / 2 - 0) a.order.now),
       record {
         known = known_front p.known (length a.order.now / 2 - 0);
-        dimension = next-below;
+        dimension = next_below;
         least_size = p.least_size;
         end_size = rw length-set p.end_size;
       },
@@ -84,9 +84,9 @@ node-returns-then-not-branch t c =
     c.requires.order_nonzero
     (next_depth a.k a.s c.next_axis-n.result c.next_axis-n.ensures)
     (node_allowed)) in
-    let left-answer : c.branch-k.result ≡ on_left =
+    let left_answer : c.branch-k.result ≡ on_left =
     c.branch-k.ensures in
-    sym (step ∙ rw (refused (left-answer) c.if-not-branch.true-raw))
+    sym (step ∙ rw (refused (left_answer) c.if-not-branch.true-raw))
 
 pub node-overflow_add-right_least : goal.node-overflow_add-right_least
 node-overflow_add-right_least t c =
@@ -103,7 +103,7 @@ node-overflow_add-right_least t c =
 
 pub node-branch-k-requires-2 : goal.node-branch-k-requires-2
 node-branch-k-requires-2 t c =
-    let next-below : c.next_axis-n.result < c.args.k =
+    let next_below : c.next_axis-n.result < c.args.k =
     rw c.next_axis-n.ensures (mod-lt (c.args.s + 1) (omega (arith, c.requires.descends))) in
     let a = c.args in
     let p = c.requires.descends in
@@ -111,7 +111,7 @@ node-branch-k-requires-2 t c =
       omega (arith, c.decreases, c.requires.order_nonzero, length-take (length a.order.now - (h + 1)) (drop (h + 1) a.order.now)),
       record {
         known = known_front (known_back p.known (h + 1)) (length a.order.now - (h + 1));
-        dimension = next-below;
+        dimension = next_below;
         least_size = rw length-set p.least_size;
         end_size = p.end_size;
       },
@@ -146,9 +146,9 @@ node-returns t c =
     c.requires.order_nonzero
     (next_depth a.k a.s c.next_axis-n.result c.next_axis-n.ensures)
     (node_allowed)) in
-    let left-answer : c.branch-k.result ≡ on_left =
+    let left_answer : c.branch-k.result ≡ on_left =
     c.branch-k.ensures in
     let right_answer : c.branch-k-2.result ≡ on_right =
     c.branch-k-2.ensures in
-    let left-yes = accepted (left-answer) c.if-not-branch.false-raw in
-    right_answer ∙ sym (step ∙ rw left-yes)
+    let left_yes = accepted (left_answer) c.if-not-branch.false-raw in
+    right_answer ∙ sym (step ∙ rw left_yes)

@@ -47,7 +47,7 @@ returns c =
     every (λ p. not (below a.n p) || is_live a.n a.live.now p) a.order.now ≡ true) =
     c.none_dead.ensures.yes (not_false c.none_dead.result c.if-not-none_dead.false-raw) in
     -- The answer of the descent from the root.
-    let from-root : (let a = c.args in
+    let from_root : (let a = c.args in
     c.node.result ≡ branch_allowed a.k a.n a.points.now (replicate 4 0) (replicate 4 4294967295) 0 a.order.now) =
     c.node.ensures in
-    from-root ∙ root_answer c.requires.tested_points c.args.order.now c.requires.order_len (numbers)
+    from_root ∙ root_answer c.requires.tested_points c.args.order.now c.requires.order_len (numbers)

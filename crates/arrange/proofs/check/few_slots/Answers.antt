@@ -31,33 +31,33 @@ key-requires c =
     -- Past two tests the run has two slots.
     let two : length c.args.order.now ≡ 2 =
     omega (arith, c.requires.order_len_bound, c.if-c-eq0.false, c.if-c-eq1.false) in
-    let both-allowed : (let a = c.args in
+    let both_allowed : (let a = c.args in
     let run = a.order.now in
     three_allowed a.k a.m a.points.now a.least a.end (get_or run 1 0) (get_or run 0 0) (get_or run 0 0) ≡ true) =
     accepted c.three_allowed.ensures c.if-not-three_allowed.false-raw in
     let size = two in
-    (three_keyed c.requires.descends 1 0 0 (omega arith) (omega arith) (omega arith) (both-allowed)).1
+    (three_keyed c.requires.descends 1 0 0 (omega arith) (omega arith) (omega arith) (both_allowed)).1
 
 pub key-requires-2 : goal.key-requires-2
 key-requires-2 c =
     -- Past two tests the run has two slots.
     let two : length c.args.order.now ≡ 2 =
     omega (arith, c.requires.order_len_bound, c.if-c-eq0.false, c.if-c-eq1.false) in
-    let both-allowed : (let a = c.args in
+    let both_allowed : (let a = c.args in
     let run = a.order.now in
     three_allowed a.k a.m a.points.now a.least a.end (get_or run 1 0) (get_or run 0 0) (get_or run 0 0) ≡ true) =
     accepted c.three_allowed.ensures c.if-not-three_allowed.false-raw in
     let size = two in
-    (three_keyed c.requires.descends 1 0 0 (omega arith) (omega arith) (omega arith) (both-allowed)).0
+    (three_keyed c.requires.descends 1 0 0 (omega arith) (omega arith) (omega arith) (both_allowed)).0
 
 pub returns : goal.returns
 returns c =
     -- Past two tests the run has two slots.
     let two : length c.args.order.now ≡ 2 =
     omega (arith, c.requires.order_len_bound, c.if-c-eq0.false, c.if-c-eq1.false) in
-    let both-allowed : (let a = c.args in
+    let both_allowed : (let a = c.args in
     let run = a.order.now in
     three_allowed a.k a.m a.points.now a.least a.end (get_or run 1 0) (get_or run 0 0) (get_or run 0 0) ≡ true) =
     accepted c.three_allowed.ensures c.if-not-three_allowed.false-raw in
     rw (c.key.ensures, c.key-2.ensures)
-    (sym (on_two c.requires.descends (two) ∙ rw (both-allowed)))
+    (sym (on_two c.requires.descends (two) ∙ rw (both_allowed)))

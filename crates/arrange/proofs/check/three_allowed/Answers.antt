@@ -12,69 +12,69 @@ use Rattle.arrange.proofs.check.three_allowed.Goals as goal
 pub returns-then-not-is_below : goal.returns-then-not-is_below
 returns-then-not-is_below c =
     -- The three calls together ask whether all three numbers are below m.
-    let all-below : (let a = c.args in
+    let all_below : (let a = c.args in
     c.is_below.result && c.is_below-2.result && c.is_below-3.result ≡ all_three (below a.m) a.p a.q a.r) =
     rw (c.is_below.ensures, c.is_below-2.ensures, c.is_below-3.ensures) in
-    sym (not_belonging _ _ _ _ _ _ _ _ (refused (all-below) c.if-not-is_below.true-raw))
+    sym (not_belonging _ _ _ _ _ _ _ _ (refused (all_below) c.if-not-is_below.true-raw))
 
 pub returns-then-k-d : goal.returns-then-k-d
 returns-then-k-d c =
     -- The three calls together ask whether all three numbers are below m.
-    let all-below : (let a = c.args in
+    let all_below : (let a = c.args in
     c.is_below.result && c.is_below-2.result && c.is_below-3.result ≡ all_three (below a.m) a.p a.q a.r) =
     rw (c.is_below.ensures, c.is_below-2.ensures, c.is_below-3.ensures) in
-    let all-three-below : (let a = c.args in
+    let all_three_below : (let a = c.args in
     all_three (below a.m) a.p a.q a.r ≡ true) =
-    accepted (all-below) c.if-not-is_below.false-raw in
+    accepted (all_below) c.if-not-is_below.false-raw in
     -- Once all k dimensions are passed the three are allowed.
     let passed : (let a = c.args in
     a.k ≤ c.loop-d.d → three_allowed a.k a.m a.points.now a.least a.end a.p a.q a.r ≡ true) =
-    λ h. all_within_lem _ _ _ _ _ _ _ _ (all-three-below) (λ d l. c.loop-d.invariant.1 d (omega arith)) in
+    λ h. all_within_lem _ _ _ _ _ _ _ _ (all_three_below) (λ d l. c.loop-d.invariant.1 d (omega arith)) in
     sym (passed c.if-k-d.true)
 
 pub key-x-requires : goal.key-x-requires
 key-x-requires c =
     -- The three calls together ask whether all three numbers are below m.
-    let all-below : (let a = c.args in
+    let all_below : (let a = c.args in
     c.is_below.result && c.is_below-2.result && c.is_below-3.result ≡ all_three (below a.m) a.p a.q a.r) =
     rw (c.is_below.ensures, c.is_below-2.ensures, c.is_below-3.ensures) in
-    let all-three-below : (let a = c.args in
+    let all_three_below : (let a = c.args in
     all_three (below a.m) a.p a.q a.r ≡ true) =
-    accepted (all-below) c.if-not-is_below.false-raw in
+    accepted (all_below) c.if-not-is_below.false-raw in
     -- The three numbers are below m, so that each has a key on the turn's dimension.
     let each_below : (let a = c.args in
     EachOfThree (below a.m) a.p a.q a.r) =
-    each_of_three _ _ _ _ (all-three-below) in
+    each_of_three _ _ _ _ (all_three_below) in
     run_keyed c.requires 0 (omega arith) (each_below).first c.loop-d.d c.if-k-d.false
 
 pub key-y-requires : goal.key-y-requires
 key-y-requires c =
     -- The three calls together ask whether all three numbers are below m.
-    let all-below : (let a = c.args in
+    let all_below : (let a = c.args in
     c.is_below.result && c.is_below-2.result && c.is_below-3.result ≡ all_three (below a.m) a.p a.q a.r) =
     rw (c.is_below.ensures, c.is_below-2.ensures, c.is_below-3.ensures) in
-    let all-three-below : (let a = c.args in
+    let all_three_below : (let a = c.args in
     all_three (below a.m) a.p a.q a.r ≡ true) =
-    accepted (all-below) c.if-not-is_below.false-raw in
+    accepted (all_below) c.if-not-is_below.false-raw in
     -- The three numbers are below m, so that each has a key on the turn's dimension.
     let each_below : (let a = c.args in
     EachOfThree (below a.m) a.p a.q a.r) =
-    each_of_three _ _ _ _ (all-three-below) in
+    each_of_three _ _ _ _ (all_three_below) in
     run_keyed c.requires 1 (omega arith) (each_below).second c.loop-d.d c.if-k-d.false
 
 pub key-z-requires : goal.key-z-requires
 key-z-requires c =
     -- The three calls together ask whether all three numbers are below m.
-    let all-below : (let a = c.args in
+    let all_below : (let a = c.args in
     c.is_below.result && c.is_below-2.result && c.is_below-3.result ≡ all_three (below a.m) a.p a.q a.r) =
     rw (c.is_below.ensures, c.is_below-2.ensures, c.is_below-3.ensures) in
-    let all-three-below : (let a = c.args in
+    let all_three_below : (let a = c.args in
     all_three (below a.m) a.p a.q a.r ≡ true) =
-    accepted (all-below) c.if-not-is_below.false-raw in
+    accepted (all_below) c.if-not-is_below.false-raw in
     -- The three numbers are below m, so that each has a key on the turn's dimension.
     let each_below : (let a = c.args in
     EachOfThree (below a.m) a.p a.q a.r) =
-    each_of_three _ _ _ _ (all-three-below) in
+    each_of_three _ _ _ _ (all_three_below) in
     run_keyed c.requires 2 (omega arith) (each_below).third c.loop-d.d c.if-k-d.false
 
 pub returns-then-not-l-x : goal.returns-then-not-l-x
@@ -94,14 +94,14 @@ returns-then-not-l-x c =
 pub returns : goal.returns
 returns c =
     -- The three calls together ask whether all three numbers are below m.
-    let all-below : (let a = c.args in
+    let all_below : (let a = c.args in
     c.is_below.result && c.is_below-2.result && c.is_below-3.result ≡ all_three (below a.m) a.p a.q a.r) =
     rw (c.is_below.ensures, c.is_below-2.ensures, c.is_below-3.ensures) in
-    let all-three-below : (let a = c.args in
+    let all_three_below : (let a = c.args in
     all_three (below a.m) a.p a.q a.r ≡ true) =
-    accepted (all-below) c.if-not-is_below.false-raw in
+    accepted (all_below) c.if-not-is_below.false-raw in
     -- Once all k dimensions are passed the three are allowed.
     let passed : (let a = c.args in
     a.k ≤ c.loop-d.d → three_allowed a.k a.m a.points.now a.least a.end a.p a.q a.r ≡ true) =
-    λ h. all_within_lem _ _ _ _ _ _ _ _ (all-three-below) (λ d l. c.loop-d.invariant.1 d (omega arith)) in
+    λ h. all_within_lem _ _ _ _ _ _ _ _ (all_three_below) (λ d l. c.loop-d.invariant.1 d (omega arith)) in
     sym (passed (omega (arith, c.requires)))

@@ -16,33 +16,33 @@ returns-then-not-three_allowed c =
 
 pub key-x-requires : goal.key-x-requires
 key-x-requires c =
-    let all-allowed : (let a = c.args in
+    let all_allowed : (let a = c.args in
     let run = a.order.now in
     three_allowed a.k a.m a.points.now a.least a.end (get_or run 1 0) (get_or run 0 0) (get_or run 2 0) ≡ true) =
     accepted c.three_allowed.ensures c.if-not-three_allowed.false-raw in
-    (three_keyed c.requires.descends 1 0 2 (omega (arith, c.requires.order_len)) (omega (arith, c.requires.order_len)) (omega (arith, c.requires.order_len)) (all-allowed)).0
+    (three_keyed c.requires.descends 1 0 2 (omega (arith, c.requires.order_len)) (omega (arith, c.requires.order_len)) (omega (arith, c.requires.order_len)) (all_allowed)).0
 
 pub key-requires : goal.key-requires
 key-requires c =
-    let all-allowed : (let a = c.args in
+    let all_allowed : (let a = c.args in
     let run = a.order.now in
     three_allowed a.k a.m a.points.now a.least a.end (get_or run 1 0) (get_or run 0 0) (get_or run 2 0) ≡ true) =
     accepted c.three_allowed.ensures c.if-not-three_allowed.false-raw in
-    (three_keyed c.requires.descends 1 0 2 (omega (arith, c.requires.order_len)) (omega (arith, c.requires.order_len)) (omega (arith, c.requires.order_len)) (all-allowed)).1
+    (three_keyed c.requires.descends 1 0 2 (omega (arith, c.requires.order_len)) (omega (arith, c.requires.order_len)) (omega (arith, c.requires.order_len)) (all_allowed)).1
 
 pub key-requires-2 : goal.key-requires-2
 key-requires-2 c =
-    let all-allowed : (let a = c.args in
+    let all_allowed : (let a = c.args in
     let run = a.order.now in
     three_allowed a.k a.m a.points.now a.least a.end (get_or run 1 0) (get_or run 0 0) (get_or run 2 0) ≡ true) =
     accepted c.three_allowed.ensures c.if-not-three_allowed.false-raw in
-    (three_keyed c.requires.descends 1 0 2 (omega (arith, c.requires.order_len)) (omega (arith, c.requires.order_len)) (omega (arith, c.requires.order_len)) (all-allowed)).2
+    (three_keyed c.requires.descends 1 0 2 (omega (arith, c.requires.order_len)) (omega (arith, c.requires.order_len)) (omega (arith, c.requires.order_len)) (all_allowed)).2
 
 pub returns : goal.returns
 returns c =
-    let all-allowed : (let a = c.args in
+    let all_allowed : (let a = c.args in
     let run = a.order.now in
     three_allowed a.k a.m a.points.now a.least a.end (get_or run 1 0) (get_or run 0 0) (get_or run 2 0) ≡ true) =
     accepted c.three_allowed.ensures c.if-not-three_allowed.false-raw in
     rw (c.key-x.ensures, c.key.ensures, c.key-2.ensures)
-    (sym (on_three c.requires.descends c.requires.order_len ∙ rw (all-allowed)))
+    (sym (on_three c.requires.descends c.requires.order_len ∙ rw (all_allowed)))

@@ -28,6 +28,6 @@ returns c =
     let x = c.coordinate-x in
     let y = c.coordinate-y in
     let a = c.args in
-    let not-less = rw (to_z-of_z (sfits_of x.type_inv), to_z-of_z (sfits_of y.type_inv), x.ensures, y.ensures) at c.if-x-y.false in
-    let not-greater = rw (to_z-of_z {w = w32} (sfits_of y.type_inv), to_z-of_z {w = w32} (sfits_of x.type_inv), y.ensures, x.ensures) at c.if-y-x.false in
-    sym (before_equal (coord a.k a.points.now) a.d a.p a.q not-less not-greater)
+    let not_less = rw (to_z-of_z (sfits_of x.type_inv), to_z-of_z (sfits_of y.type_inv), x.ensures, y.ensures) at c.if-x-y.false in
+    let not_greater = rw (to_z-of_z {w = w32} (sfits_of y.type_inv), to_z-of_z {w = w32} (sfits_of x.type_inv), y.ensures, x.ensures) at c.if-y-x.false in
+    sym (before_equal (coord a.k a.points.now) a.d a.p a.q not_less not_greater)

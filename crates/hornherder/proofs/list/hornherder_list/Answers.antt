@@ -74,7 +74,7 @@ walk-tally-requires c =
     omega (arith, told) in
     let slots : let a = c.args in length (take (live_count a.n a.live.now) a.order.now) ≡ live_count a.n a.live.now =
     length-take-le _ _ (passed).room in
-    let own-slots : let a = c.args in
+    let own_slots : let a = c.args in
     length (take (c.list_refusal-tested.result.slots - 0) a.order.now) ≡ live_count a.n a.live.now =
     rw (whole) (slots) in
     let shelved : let a = c.args in Shelved a.k a.n a.points.now (take (live_count a.n a.live.now) a.order.now) =
@@ -82,7 +82,7 @@ walk-tally-requires c =
     let p = passed in record {
       rooted = rw (whole) (shelf_rooted (shelved) (rw (whole) at c.root_box-rows.ensures));
       known_faces = rw p.faced.offsets_size (record { few = p.tested.few; tested = p.faced });
-      list_len = length-take-le _ _ (rw (told) p.list_room) ∙ told ∙ sym (own-slots);
+      list_len = length-take-le _ _ (rw (told) p.list_room) ∙ told ∙ sym (own_slots);
     }
 
 pub overflow_cast-result : goal.overflow_cast-result

@@ -15,10 +15,10 @@ pub returns-then-length-ne0 : goal.returns-then-length-ne0
 unfolding no_zero
 returns-then-length-ne0 c =
     -- Each group that was passed leaves the number to those after it.
-    let after-shape : (ys : List Refusal) (d : ℕ) → let a = c.args in First ys d
+    let after_shape : (ys : List Refusal) (d : ℕ) → let a = c.args in First ys d
     → First (shape_refusals a.k a.n a.points.now ++ ys) d =
     λ ys d f. first_goes_on refl c.shape_refusal-shape.ensures c.if-shape-ne0.false f in
-    after-shape _ _ (first_stops _ c.length_refusal-length.ensures c.if-length-ne0.true)
+    after_shape _ _ (first_stops _ c.length_refusal-length.ensures c.if-length-ne0.true)
 
 pub live_refusal-bytes-requires : goal.live_refusal-bytes-requires
 unfolding no_zero
@@ -31,13 +31,13 @@ pub returns-then-bytes-ne0 : goal.returns-then-bytes-ne0
 unfolding no_zero
 returns-then-bytes-ne0 c =
     -- Each group that was passed leaves the number to those after it.
-    let after-shape : (ys : List Refusal) (d : ℕ) → let a = c.args in First ys d
+    let after_shape : (ys : List Refusal) (d : ℕ) → let a = c.args in First ys d
     → First (shape_refusals a.k a.n a.points.now ++ ys) d =
     λ ys d f. first_goes_on refl c.shape_refusal-shape.ensures c.if-shape-ne0.false f in
-    let after-length : (ys : List Refusal) (d : ℕ) → let a = c.args in First ys d
+    let after_length : (ys : List Refusal) (d : ℕ) → let a = c.args in First ys d
     → First (shape_refusals a.k a.n a.points.now ++ length_refusals a.k a.point.now ++ ys) d =
-    λ ys d f. after-shape _ _ (first_goes_on refl c.length_refusal-length.ensures c.if-length-ne0.false f) in
-    after-length _ _ (first_stops _ c.live_refusal-bytes.ensures.first c.if-bytes-ne0.true)
+    λ ys d f. after_shape _ _ (first_goes_on refl c.length_refusal-length.ensures c.if-length-ne0.false f) in
+    after_length _ _ (first_stops _ c.live_refusal-bytes.ensures.first c.if-bytes-ne0.true)
 
 pub live_coordinate_refusal-coordinate-requires : goal.live_coordinate_refusal-coordinate-requires
 unfolding no_zero
@@ -53,47 +53,47 @@ pub returns-then-coordinate-ne0 : goal.returns-then-coordinate-ne0
 unfolding no_zero
 returns-then-coordinate-ne0 c =
     -- Each group that was passed leaves the number to those after it.
-    let after-shape : (ys : List Refusal) (d : ℕ) → let a = c.args in First ys d
+    let after_shape : (ys : List Refusal) (d : ℕ) → let a = c.args in First ys d
     → First (shape_refusals a.k a.n a.points.now ++ ys) d =
     λ ys d f. first_goes_on refl c.shape_refusal-shape.ensures c.if-shape-ne0.false f in
-    let after-length : (ys : List Refusal) (d : ℕ) → let a = c.args in First ys d
+    let after_length : (ys : List Refusal) (d : ℕ) → let a = c.args in First ys d
     → First (shape_refusals a.k a.n a.points.now ++ length_refusals a.k a.point.now ++ ys) d =
-    λ ys d f. after-shape _ _ (first_goes_on refl c.length_refusal-length.ensures c.if-length-ne0.false f) in
-    let after-bytes : (ys : List Refusal) (d : ℕ) → let a = c.args in First ys d
+    λ ys d f. after_shape _ _ (first_goes_on refl c.length_refusal-length.ensures c.if-length-ne0.false f) in
+    let after_bytes : (ys : List Refusal) (d : ℕ) → let a = c.args in First ys d
     → First (shape_refusals a.k a.n a.points.now ++ length_refusals a.k a.point.now ++ live_refusals a.n a.live.now ++ ys) d =
-    λ ys d f. after-length _ _ (first_goes_on refl c.live_refusal-bytes.ensures.first c.if-bytes-ne0.false f) in
-    after-bytes _ _ (first_stops _ c.live_coordinate_refusal-coordinate.ensures c.if-coordinate-ne0.true)
+    λ ys d f. after_length _ _ (first_goes_on refl c.live_refusal-bytes.ensures.first c.if-bytes-ne0.false f) in
+    after_bytes _ _ (first_stops _ c.live_coordinate_refusal-coordinate.ensures c.if-coordinate-ne0.true)
 
 pub returns-then-own-ne0 : goal.returns-then-own-ne0
 unfolding no_zero
 returns-then-own-ne0 c =
     -- Each group that was passed leaves the number to those after it.
-    let after-shape : (ys : List Refusal) (d : ℕ) → let a = c.args in First ys d
+    let after_shape : (ys : List Refusal) (d : ℕ) → let a = c.args in First ys d
     → First (shape_refusals a.k a.n a.points.now ++ ys) d =
     λ ys d f. first_goes_on refl c.shape_refusal-shape.ensures c.if-shape-ne0.false f in
-    let after-length : (ys : List Refusal) (d : ℕ) → let a = c.args in First ys d
+    let after_length : (ys : List Refusal) (d : ℕ) → let a = c.args in First ys d
     → First (shape_refusals a.k a.n a.points.now ++ length_refusals a.k a.point.now ++ ys) d =
-    λ ys d f. after-shape _ _ (first_goes_on refl c.length_refusal-length.ensures c.if-length-ne0.false f) in
-    let after-bytes : (ys : List Refusal) (d : ℕ) → let a = c.args in First ys d
+    λ ys d f. after_shape _ _ (first_goes_on refl c.length_refusal-length.ensures c.if-length-ne0.false f) in
+    let after_bytes : (ys : List Refusal) (d : ℕ) → let a = c.args in First ys d
     → First (shape_refusals a.k a.n a.points.now ++ length_refusals a.k a.point.now ++ live_refusals a.n a.live.now ++ ys) d =
-    λ ys d f. after-length _ _ (first_goes_on refl c.live_refusal-bytes.ensures.first c.if-bytes-ne0.false f) in
-    after-bytes _ _
+    λ ys d f. after_length _ _ (first_goes_on refl c.live_refusal-bytes.ensures.first c.if-bytes-ne0.false f) in
+    after_bytes _ _
     (first_goes_on refl c.live_coordinate_refusal-coordinate.ensures c.if-coordinate-ne0.false (first_stops _ c.coordinate_refusal-own.ensures c.if-own-ne0.true))
 
 pub returns : goal.returns
 unfolding no_zero
 returns c =
     -- Each group that was passed leaves the number to those after it.
-    let after-shape : (ys : List Refusal) (d : ℕ) → let a = c.args in First ys d
+    let after_shape : (ys : List Refusal) (d : ℕ) → let a = c.args in First ys d
     → First (shape_refusals a.k a.n a.points.now ++ ys) d =
     λ ys d f. first_goes_on refl c.shape_refusal-shape.ensures c.if-shape-ne0.false f in
-    let after-length : (ys : List Refusal) (d : ℕ) → let a = c.args in First ys d
+    let after_length : (ys : List Refusal) (d : ℕ) → let a = c.args in First ys d
     → First (shape_refusals a.k a.n a.points.now ++ length_refusals a.k a.point.now ++ ys) d =
-    λ ys d f. after-shape _ _ (first_goes_on refl c.length_refusal-length.ensures c.if-length-ne0.false f) in
-    let after-bytes : (ys : List Refusal) (d : ℕ) → let a = c.args in First ys d
+    λ ys d f. after_shape _ _ (first_goes_on refl c.length_refusal-length.ensures c.if-length-ne0.false f) in
+    let after_bytes : (ys : List Refusal) (d : ℕ) → let a = c.args in First ys d
     → First (shape_refusals a.k a.n a.points.now ++ length_refusals a.k a.point.now ++ live_refusals a.n a.live.now ++ ys) d =
-    λ ys d f. after-length _ _ (first_goes_on refl c.live_refusal-bytes.ensures.first c.if-bytes-ne0.false f) in
+    λ ys d f. after_length _ _ (first_goes_on refl c.live_refusal-bytes.ensures.first c.if-bytes-ne0.false f) in
     let many = c.live_refusal-bytes.ensures.many c.if-bytes-ne0.false in
-    after-bytes _ _
+    after_bytes _ _
     (first_goes_on refl c.live_coordinate_refusal-coordinate.ensures c.if-coordinate-ne0.false
     (first_goes_on refl c.coordinate_refusal-own.ensures c.if-own-ne0.false (rw many at c.full_refusal.ensures)))

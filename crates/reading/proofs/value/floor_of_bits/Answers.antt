@@ -16,15 +16,15 @@ quotient_fits : (n k : ℕ) → n < 2 ^ 31 → n / 2 ^ k < 2 ^ 31
 quotient_fits n k h = lt_of_le_of_lt (div-le_self n (2 ^ k)) h
 
 -- -1 less q is -(q + 1).
-minus-one-less : (q : ℕ) → q < 2 ^ 31 → negsuc 0 -ℤ to_z w32 q ≡ negsuc q
-minus-one-less q h = ap (λ (z : ℤ). negsuc 0 -ℤ z) (to_z_pos w32 h) ∙ omega (ints, dif_parts (negsuc 0) (pos q))
+minus_one_less : (q : ℕ) → q < 2 ^ 31 → negsuc 0 -ℤ to_z w32 q ≡ negsuc q
+minus_one_less q h = ap (λ (z : ℤ). negsuc 0 -ℤ z) (to_z_pos w32 h) ∙ omega (ints, dif_parts (negsuc 0) (pos q))
 
 -- The digits of the bits, over the power that the shift is.
-above-fits : (b k : ℕ) → (8388608 + b % 8388608) / 2 ^ k < 2 ^ 31
-above-fits b k = quotient_fits (8388608 + b % 8388608) k (omega arith)
+above_fits : (b k : ℕ) → (8388608 + b % 8388608) / 2 ^ k < 2 ^ 31
+above_fits b k = quotient_fits (8388608 + b % 8388608) k (omega arith)
 
-below-fits : (b k : ℕ) → (8388608 + b % 8388608 - 1) / 2 ^ k < 2 ^ 31
-below-fits b k = quotient_fits (8388608 + b % 8388608 - 1) k (omega arith)
+below_fits : (b k : ℕ) → (8388608 + b % 8388608 - 1) / 2 ^ k < 2 ^ 31
+below_fits b k = quotient_fits (8388608 + b % 8388608 - 1) k (omega arith)
 
 pub returns-then-bits-le2147483648 : goal.returns-then-bits-le2147483648
 returns-then-bits-le2147483648 c = sym (bits_below_one c.args.bits (omega arith) (omega arith))
@@ -35,17 +35,17 @@ returns-then-exponent-lt127 c = sym (bits_below_zero c.args.bits (omega arith) (
 pub returns-then-bits-lt2147483648 : goal.returns-then-bits-lt2147483648
 returns-then-bits-lt2147483648 c =
     let b = c.args.bits in
-    to_z_pos w32 (above-fits b (150 - exponent_of b)) ∙ sym (bits_above b (omega arith) (omega arith) (omega arith))
+    to_z_pos w32 (above_fits b (150 - exponent_of b)) ∙ sym (bits_above b (omega arith) (omega arith) (omega arith))
 
 pub overflow_sub-result : goal.overflow_sub-result
 overflow_sub-result c =
     let b = c.args.bits in
-    let h = below-fits b (150 - exponent_of b) in
-    rw (minus-one-less _ h) (record { sfits = h })
+    let h = below_fits b (150 - exponent_of b) in
+    rw (minus_one_less _ h) (record { sfits = h })
 
 pub returns : goal.returns
 returns c =
     let b = c.args.bits in
     to_z-of_z (overflow_sub-result c)
-    ∙ minus-one-less _ (below-fits b (150 - exponent_of b))
+    ∙ minus_one_less _ (below_fits b (150 - exponent_of b))
     ∙ sym (bits_below b (omega arith) (omega arith) (omega arith))

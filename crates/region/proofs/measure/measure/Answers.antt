@@ -44,7 +44,7 @@ above-requires c = (known_marked c.requires.known_faces c.loop-i-test.true).mark
 
 pub loop-i-preserved : goal.loop-i-preserved
 loop-i-preserved c =
-    let own-margin : let a = c.args in
+    let own_margin : let a = c.args in
     to_z w64 (of_z w64 c.margin-own.result)
     ≡ words.margin (region a.k (faces_of a.normals.now a.offsets.now a.marks.now)) c.loop-i.i (lone a.x) = let a = c.args in
     let i = c.loop-i.i in
@@ -55,7 +55,7 @@ loop-i-preserved c =
     let a = c.args in
     let l = c.loop-i in
     let g = region a.k (faces_of a.normals.now a.offsets.now a.marks.now) in
-    let own = own-margin in
+    let own = own_margin in
     let told : c.above.result ≡ above g l.i (lone a.x) = margin_above g l.i (reach g l.i (lone a.x)) (c.above.ensures g refl) own in
     let next : c.if-not-above.inside ≡ all_to (l.i + 1) (λ j. above g j (lone a.x)) =
     elim c.if-not-above.branch [

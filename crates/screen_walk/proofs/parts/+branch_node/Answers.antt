@@ -74,7 +74,7 @@ node-returns-then-first t c =
 pub node-overflow_add-seen : goal.node-overflow_add-seen
 node-overflow_add-seen t c =
     -- Past the left branch, which has none inside: it said so, or there is no left branch.
-    let left-past : let a = c.args in
+    let left_past : let a = c.args in
     LeftNone a.k a.points.now a.order.now (faces_of a.table.now a.offsets.now a.marks.now) a.run.start a.run.length a.run.axis (box_of a.run.rows) a.visits c.if-run-ne1.seen =
     elim c.if-run-ne1.branch [
       | node-then-run-ne1+else-first w ↦
@@ -84,12 +84,12 @@ node-overflow_add-seen t c =
       | node-else-run-ne1 w ↦ rw w.seen-is (left_of_alone c.requires.branch_asks c.requires.length_nonzero w.if-run-ne1.false)
     ] in
     let s = c.requires in
-    omega (arith, seen_most s.branch_asks s.length_nonzero (left-past), s.branch_asks.seen, s.length_nonzero)
+    omega (arith, seen_most s.branch_asks s.length_nonzero (left_past), s.branch_asks.seen, s.length_nonzero)
 
 pub node-returns-then-inside : goal.node-returns-then-inside
 node-returns-then-inside t c =
     -- Past the left branch, which has none inside: it said so, or there is no left branch.
-    let left-past : let a = c.args in
+    let left_past : let a = c.args in
     LeftNone a.k a.points.now a.order.now (faces_of a.table.now a.offsets.now a.marks.now) a.run.start a.run.length a.run.axis (box_of a.run.rows) a.visits c.if-run-ne1.seen =
     elim c.if-run-ne1.branch [
       | node-then-run-ne1+else-first w ↦
@@ -105,12 +105,12 @@ node-returns-then-inside t c =
     let s = c.requires in
     (point_told c.point_at-x.ensures c.inside_live-inside.ensures).tells s.branch_asks.faced.lives (own_held s.branch_asks s.length_nonzero) in
     let s = c.requires in
-    screened_by_node s.branch_asks s.length_nonzero (left-past) s.rows_value (sym (told) ∙ c.if-inside.true)
+    screened_by_node s.branch_asks s.length_nonzero (left_past) s.rows_value (sym (told) ∙ c.if-inside.true)
 
 pub node-branch-k-requires : goal.node-branch-k-requires
 node-branch-k-requires t c =
     -- Past the left branch, which has none inside: it said so, or there is no left branch.
-    let left-past : let a = c.args in
+    let left_past : let a = c.args in
     LeftNone a.k a.points.now a.order.now (faces_of a.table.now a.offsets.now a.marks.now) a.run.start a.run.length a.run.axis (box_of a.run.rows) a.visits c.if-run-ne1.seen =
     elim c.if-run-ne1.branch [
       | node-then-run-ne1+else-first w ↦
@@ -130,12 +130,12 @@ node-branch-k-requires t c =
     rw (to_z-of_z {w = w32} (sfits_of x.type_inv), x.ensures, c.next_axis-next.ensures) at c.right_run-right.ensures in
     let r = right_is in
     let some = c.requires.length_nonzero in
-    (omega (arith, c.decreases, r.slots, some), screenable_right c.requires.branch_asks some (left-past) r)
+    (omega (arith, c.decreases, r.slots, some), screenable_right c.requires.branch_asks some (left_past) r)
 
 pub node-returns : goal.node-returns
 node-returns t c =
     -- Past the left branch, which has none inside: it said so, or there is no left branch.
-    let left-past : let a = c.args in
+    let left_past : let a = c.args in
     LeftNone a.k a.points.now a.order.now (faces_of a.table.now a.offsets.now a.marks.now) a.run.start a.run.length a.run.axis (box_of a.run.rows) a.visits c.if-run-ne1.seen =
     elim c.if-run-ne1.branch [
       | node-then-run-ne1+else-first w ↦
@@ -160,4 +160,4 @@ node-returns t c =
     let x = c.coordinate-split in
     rw (to_z-of_z {w = w32} (sfits_of x.type_inv), x.ensures, c.next_axis-next.ensures) at c.right_run-right.ensures in
     let s = c.requires in
-    screened_by_right s.branch_asks s.length_nonzero (left-past) (right_is) s.rows_value (sym (told) ∙ c.if-inside.false) c.branch-k.ensures
+    screened_by_right s.branch_asks s.length_nonzero (left_past) (right_is) s.rows_value (sym (told) ∙ c.if-inside.false) c.branch-k.ensures

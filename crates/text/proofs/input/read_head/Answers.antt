@@ -20,10 +20,10 @@ returns-then-not-h c =
 pub returns : goal.returns
 returns c =
     let h = c.read_size-h in
-    let no-k = c.if-not-k.false in
-    let no-n = c.if-not-n.false in
-    let a = c.read_size-k.ensures.allowed (not_false c.read_size-k.result.ok no-k) in
-    let b = c.read_size-n.ensures.allowed (not_false c.read_size-n.result.ok no-n) in
+    let no_k = c.if-not-k.false in
+    let no_n = c.if-not-n.false in
+    let a = c.read_size-k.ensures.allowed (not_false c.read_size-k.result.ok no_k) in
+    let b = c.read_size-n.ensures.allowed (not_false c.read_size-n.result.ok no_n) in
     let d = h.ensures.allowed (not_false h.result.ok c.if-not-h.false) in
-    head_hit c.read_size-k.ensures no-k c.read_size-n.ensures no-n h.ensures
+    head_hit c.read_size-k.ensures no_k c.read_size-n.ensures no_n h.ensures
     (record { some = omega arith; few = omega arith; points_few = omega arith; faces_few = omega arith }) c.if-not-h.false

@@ -23,17 +23,17 @@ branch-returns-then-c-eq0 t c =
 pub branch-read_box-rows-requires : goal.branch-read_box-rows-requires
 branch-read_box-rows-requires t c =
     -- There is a slot.
-    let some-slots : 0 < c.args.run.length =
+    let some_slots : 0 < c.args.run.length =
     omega (arith, c.if-c-eq0.false) in
-    box_by (own_read c.requires (some-slots)) (omega arith)
+    box_by (own_read c.requires (some_slots)) (omega arith)
 
 pub branch-judge-judged-requires : goal.branch-judge-judged-requires
 branch-judge-judged-requires t c =
     -- There is a slot.
-    let some-slots : 0 < c.args.run.length =
+    let some_slots : 0 < c.args.run.length =
     omega (arith, c.if-c-eq0.false) in
     let w = c.requires in
-    let some = some-slots in
+    let some = some_slots in
     let read = c.read_box-rows.ensures in record {
       box_ranges = read_ranges w some read;
       known_table = w.faces;
@@ -44,10 +44,10 @@ branch-judge-judged-requires t c =
 pub branch-returns-in-Below : goal.branch-returns-in-Below
 branch-returns-in-Below t c =
     -- There is a slot.
-    let some-slots : 0 < c.args.run.length =
+    let some_slots : 0 < c.args.run.length =
     omega (arith, c.if-c-eq0.false) in
     let w = c.requires in
-    let some = some-slots in
+    let some = some_slots in
     let read = c.read_box-rows.ensures in
     let below = rw c.in-Below.is at c.judge-judged.ensures in
     branch_outside w some read (judged_below below) c.copy_outside.ensures
@@ -55,10 +55,10 @@ branch-returns-in-Below t c =
 pub branch-returns-in-Above : goal.branch-returns-in-Above
 branch-returns-in-Above t c =
     -- There is a slot.
-    let some-slots : 0 < c.args.run.length =
+    let some_slots : 0 < c.args.run.length =
     omega (arith, c.if-c-eq0.false) in
     let w = c.requires in
-    let some = some-slots in
+    let some = some_slots in
     let read = c.read_box-rows.ensures in
     let above = rw c.in-Above.is at c.judge-judged.ensures in
     branch_inside w some read above.all c.copy_inside.ensures
@@ -66,10 +66,10 @@ branch-returns-in-Above t c =
 pub branch-node-requires : goal.branch-node-requires
 branch-node-requires t c =
     -- There is a slot.
-    let some-slots : 0 < c.args.run.length =
+    let some_slots : 0 < c.args.run.length =
     omega (arith, c.if-c-eq0.false) in
     let w = c.requires in
-    let some = some-slots in
+    let some = some_slots in
     let read = c.read_box-rows.ensures in
     let j = rw c.in-Open.is at c.judge-judged.ensures in
     (omega (arith, c.decreases), (walkable_left_faces w some read j.lives, (some, read_open w some read (judged_open j (own_held w some (read_held w some read))))))
