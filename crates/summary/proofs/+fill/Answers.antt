@@ -1,4 +1,3 @@
--- The measure is the number of slots. Both shares come back as the summaries of the branches, and with the box between them they are the summary of the run.
 use Prim.Native.Nat.{◌<◌}
 use native.Mathlib.Omega.{arith}
 use lib.ListN.{length}

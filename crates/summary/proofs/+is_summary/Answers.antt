@@ -1,4 +1,3 @@
--- The measure is the number of slots. A wrong share of a branch is a wrong summary; with both right, the box between them tells.
 use mathlib.Core.Path.{sym}
 use Prim.Native.Nat.{◌<◌}
 use native.Mathlib.Omega.{arith}

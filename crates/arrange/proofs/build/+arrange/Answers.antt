@@ -1,5 +1,3 @@
--- The measure is the run's length. The node's number is placed, and each half is a part of what is left then, shorter than the run; what is
--- asked of the run holds of its parts, and the two trees that come back make one with the node.
 use mathlib.Core.Path.{refl}
 use mathlib.Core.List.{List, ◌++◌}
 use Prim.Native.Nat.{ℕ, ◌+◌, ◌-◌, ◌<◌}

@@ -1,6 +1,5 @@
--- The descent, a branch and its node in turn. The measures are 2 c + 1 for a branch of c slots and 2 c for its node. Where the node is allowed
--- the descent's law, `on_branches`, gives the answer by the two branches, once the parts lent to the calls are seen to be the left and the
--- right branch and the key to be the node's.
+-- Where the node is allowed the descent's law, `on_branches`, gives the answer by the two branches, once the parts lent to the calls are seen to be the
+-- left and the right branch and the key to be the node's.
 use mathlib.Core.Path.{◌≡◌, sym, ap, ◌∙◌}
 use mathlib.Core.Bool.{Bool, true, ◌&&◌}
 use mathlib.Core.List.{List}

@@ -1,5 +1,3 @@
--- The way down to a number, which calls itself on ever shorter runs: the measure is the run's length. A settled branch has its reason; an open one goes to its
--- node's own test or to the branch on the number's side.
 use mathlib.Core.Path.{◌∙◌}
 use native.Mathlib.Omega.{arith}
 use borrow.Author.Rules.{sfits_of}

@@ -1,5 +1,3 @@
--- The node part and the branch part, which call each other: the measure is twice the run's length, and one more for the branch part.
--- A branch that is judged settled has its answer; an open one goes to its node, which goes on to its left branch, and past that to its right one.
 use mathlib.Core.Path.{◌≡◌, sym, ◌∙◌}
 use Prim.Native.Nat.{◌<◌, ◌+◌, ◌-◌, ◌/◌}
 use native.Mathlib.Omega.{arith}

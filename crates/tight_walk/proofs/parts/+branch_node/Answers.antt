@@ -1,5 +1,3 @@
--- The node part and the branch part, which call each other: the measure is twice the run's length, and one more for the branch part.
--- What is read from the summary is the branch's tight box. Judged settled, the run goes to a copier; an open one goes to its node, and on to both branches.
 use mathlib.Core.Path.{◌≡◌, refl}
 use Prim.Native.Nat.{◌<◌}
 use native.Mathlib.Omega.{arith}

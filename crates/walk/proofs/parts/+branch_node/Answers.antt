@@ -1,5 +1,3 @@
--- The node part and the branch part, which call each other: the measure is twice the run's length, and one more for the branch part.
--- A branch that is judged settled goes to a copier; an open one to its node, which goes on to both of its branches as to branches that can be walked.
 use mathlib.Core.Path.{◌≡◌}
 use Prim.Native.Nat.{◌<◌, ◌+◌, ◌-◌, ◌/◌}
 use native.Mathlib.Omega.{arith}
