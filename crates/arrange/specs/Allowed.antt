@@ -57,7 +57,7 @@ each_of_three test p q r e =
     let b = and_true (test p) a.0 in
     record { first = b.0; second = b.1; third = a.1 }
 
-of_each_of_three : (test : ℕ → Bool) (p q r : ℕ) → EachOfThree test p q r → all_three test p q r ≡ true
+pub of_each_of_three : (test : ℕ → Bool) (p q r : ℕ) → EachOfThree test p q r → all_three test p q r ≡ true
 of_each_of_three test p q r w = true_and (true_and w.first w.second) w.third
 
 -- A test that follows from another follows of three numbers too.

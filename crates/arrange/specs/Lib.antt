@@ -11,3 +11,4 @@ pub mod Arranged
 pub mod Allowed
 pub mod Descent
 pub mod Checked
+pub mod Looked

@@ -25,7 +25,7 @@ written_turn {value} {xs} {ys} {t} {v} w h e = record {
     go i l (inl s) = get_or-set_other ys t i v 0 (λ q. omega arith) ∙ w.done i s
     go i l (inr s) = let q : i ≡ t = omega arith in rw q (get_or-set_same ys t v 0 h ∙ e)
 
-written_all : {value : ℕ → ℕ} {xs ys : List ℕ} {t : ℕ} (zs : List ℕ) → WrittenTo value xs ys t → length ys ≤ t → length zs ≡ length xs
+pub written_all : {value : ℕ → ℕ} {xs ys : List ℕ} {t : ℕ} (zs : List ℕ) → WrittenTo value xs ys t → length ys ≤ t → length zs ≡ length xs
     → ((i : ℕ) → i < length xs → get_or zs i 0 ≡ value i) → ys ≡ zs
 written_all {ys = ys} zs w h n at =
     let s = w.size in

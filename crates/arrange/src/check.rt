@@ -1,200 +1,257 @@
 // The checker: whether an order is the tree of its points, by one descent and no memory besides the stack.
-// It carries by value, for each dimension, the least key allowed and the first not allowed. Below the root a run of three slots at most is decided at
-// once; most slots of a shelf stand in such runs.
-ghost use Rattle.std.specs.Prelude.{◌≡◌, [], ◌∷◌, ◌<◌, length};
-ghost use Rattle.terms.specs.Lent.{stock};
-ghost use Rattle.terms.specs.Points.{coord};
+// A branch is looked at within bounds, for each dimension the least key allowed and the first not allowed. Below the root a run of three slots at most is
+// decided at once; most slots of a shelf stand in such runs.
+ghost use Rattle.std.specs.Prelude.{◌≡◌, true, ◌||◌, not, ◌+◌, ◌<◌, length, replicate, slice_set, slice_index};
+ghost use Rattle.terms.specs.Tests.{every};
+ghost use Rattle.terms.specs.LentValues.{stock_of};
+ghost use Rattle.terms.specs.Points.{coord, below};
 ghost use Rattle.terms.specs.Live.{is_live, live_count};
 ghost use Rattle.terms.specs.Tree.{is_tree};
 ghost use Rattle.theory.specs.Tested.{TestedPoints};
-ghost use Rattle.arrange.specs.Checked.{RunKnown, NoneDead, Descends, number_allowed, three_allowed, branch_allowed};
+ghost use Rattle.arrange.specs.Key.{key_of};
+ghost use Rattle.arrange.specs.Allowed.{is_within};
+ghost use Rattle.arrange.specs.Checked.{NoneDead};
 
 use crate::below::is_below;
 use crate::key::key;
 use crate::live::all_live;
 use terms::axis::next_axis;
+use terms::lent::Stock;
 
-// Whether numbers p, q and r are below m, each with its key on every dimension at least the least there and below the end.
-// The turns are four at most, a constant, so that a compiler can lay them out one after another.
-fn three_allowed(
-    k: usize,
-    m: usize,
-    points: &[i32],
+// The bounds of a branch: for each dimension the least key allowed, and the first not allowed.
+#[derive(Clone, Copy)]
+struct Bounds {
     least: [u32; 4],
     end: [u32; 4],
-    p: u32,
-    q: u32,
-    r: u32,
-) -> bool
-    requires { RunKnown k m points.now (p ∷ q ∷ r ∷ []) }
-    ensures { result ≡ three_allowed k m points.now least end p q r }
-{
-    if !(is_below(m, p) & is_below(m, q) & is_below(m, r)) {
-        return false;
-    }
-    let mut d: usize = 0;
-    while d < 4 {
-        if k <= d {
-            return true;
+}
+
+impl Bounds {
+    // The root's, which leave every key in.
+    fn of_root() -> Bounds
+        ensures least { result.least ≡ replicate 4 0 }
+        ensures end { result.end ≡ replicate 4 4294967295 }
+    {
+        Bounds {
+            least: [0; 4],
+            end: [4294967295; 4],
         }
-        let l = least[d];
-        let e = end[d];
-        let x = key(k, points, d, p);
-        let y = key(k, points, d, q);
-        let z = key(k, points, d, r);
-        if !(((l <= x) & (x < e)) & ((l <= y) & (y < e)) & ((l <= z) & (z < e))) {
+    }
+
+    // Whether key x on dimension d lies within.
+    fn hold(&self, d: usize, x: u32) -> bool
+        requires { d < 4 }
+        ensures { result ≡ is_within self.now.least self.now.end d x }
+    {
+        (self.least[d] <= x) & (x < self.end[d])
+    }
+
+    // Makes them those of the left branch of a node with key x on dimension s: it ends there.
+    fn end_at(&mut self, s: usize, x: u32)
+        requires { s < 4 }
+        ensures least { self.new.least ≡ self.old.least }
+        ensures end { self.new.end ≡ slice_set self.old.end s x }
+    {
+        self.end[s] = x;
+    }
+
+    // Makes them those of the right branch of that node: it starts right after.
+    fn start_after(&mut self, s: usize, x: u32)
+        requires dimension { s < 4 }
+        requires later { x < 4294967295 }
+        ensures least { self.new.least ≡ slice_set self.old.least s (x + 1) }
+        ensures end { self.new.end ≡ self.old.end }
+    {
+        self.least[s] = x + 1;
+    }
+}
+
+// A run of slots that is looked at as a branch, whose node splits on dimension s. The stock was tested and no slot holds a dead number, so that a
+// number of the run that is below n has a key on each dimension.
+#[derive(Clone, Copy)]
+struct Branch<'a> {
+    stock: &'a Stock<'a>,
+    order: &'a [u32],
+    s: usize,
+    ghost tested: { TestedPoints (stock_of stock.now) },
+    ghost none_dead: { every (λ p. not (below stock.now.n p) || is_live stock.now.n stock.now.live.now p) order.now ≡ true },
+    ghost dimension: { s < stock.now.k },
+}
+
+impl<'a> Branch<'a> {
+    ghost use Rattle.arrange.specs.Looked.{slot_allowed, slots_allowed, is_answer, LeftOf, RightOf};
+
+    // Whether the numbers in three slots are below n, each with its key on every dimension within the bounds.
+    // The turns are four at most, a constant, so that a compiler can lay them out one after another, and where it is called: out of line the whole
+    // check takes a third more time.
+    #[inline(always)]
+    fn three_allowed(&self, bounds: &Bounds, i: usize, j: usize, h: usize) -> bool
+        requires i_in_bounds { i < length self.now.order.now }
+        requires j_in_bounds { j < length self.now.order.now }
+        requires h_in_bounds { h < length self.now.order.now }
+        ensures { result ≡ slots_allowed self.now bounds.now i j h }
+    {
+        let n = self.stock.n;
+        let p = self.order[i];
+        let q = self.order[j];
+        let r = self.order[h];
+        if !(is_below(n, p) & is_below(n, q) & is_below(n, r)) {
             return false;
         }
-        d += 1;
+        for d in 0..4 {
+            if self.stock.k <= d {
+                return true;
+            }
+            let x = key(self.stock, d, p);
+            let y = key(self.stock, d, q);
+            let z = key(self.stock, d, r);
+            if !(bounds.hold(d, x) & bounds.hold(d, y) & bounds.hold(d, z)) {
+                return false;
+            }
+        }
+        true
     }
-    true
+
+    // The same of one slot.
+    fn allowed(&self, bounds: &Bounds, i: usize) -> bool
+        requires { i < length self.now.order.now }
+        ensures { result ≡ slot_allowed self.now bounds.now i }
+    {
+        self.three_allowed(bounds, i, i, i)
+    }
+
+    // The key, on the dimension that the node splits on, of a slot's number that is below n.
+    fn key_at(&self, i: usize) -> u32
+        requires in_bounds { i < length self.now.order.now }
+        requires below_n { below self.now.stock.now.n (slice_index self.now.order.now i) ≡ true }
+        ensures value { result ≡ key_of self.now.stock.now.k self.now.stock.now.points.now self.now.s (slice_index self.now.order.now i) }
+        ensures not_last { result < 4294967295 }
+    {
+        key(self.stock, self.s, self.order[i])
+    }
+
+    // Whether the run, of two slots at most, is such a branch, with every number allowed.
+    fn few_slots(&self, bounds: &Bounds) -> bool
+        requires { length self.now.order.now < 3 }
+        ensures { result ≡ is_answer self.now bounds.now }
+    {
+        let c = self.order.len();
+        if c == 0 {
+            return true;
+        }
+        if c == 1 {
+            return self.allowed(bounds, 0);
+        }
+        if !self.three_allowed(bounds, 1, 0, 0) {
+            return false;
+        }
+        self.key_at(0) < self.key_at(1)
+    }
+
+    // The same of a run of three slots: its node and the two slots that are its branches.
+    fn three_slots(&self, bounds: &Bounds) -> bool
+        requires { length self.now.order.now ≡ 3 }
+        ensures { result ≡ is_answer self.now bounds.now }
+    {
+        if !self.three_allowed(bounds, 1, 0, 2) {
+            return false;
+        }
+        let x = self.key_at(1);
+        (self.key_at(0) < x) & (x < self.key_at(2))
+    }
+
+    // The left branch of the node in slot h: the slots before it.
+    fn left(&self, h: usize) -> Branch<'a>
+        requires { h < length self.now.order.now }
+        ensures { LeftOf self.now h result }
+    {
+        Branch {
+            stock: self.stock,
+            order: &self.order[..h],
+            s: next_axis(self.stock.k, self.s),
+        }
+    }
+
+    // The right branch of that node: the slots after it.
+    fn right(&self, h: usize) -> Branch<'a>
+        requires { h < length self.now.order.now }
+        ensures { RightOf self.now h result }
+    {
+        let r = h + 1;
+        Branch {
+            stock: self.stock,
+            order: &self.order[r..],
+            s: next_axis(self.stock.k, self.s),
+        }
+    }
+
+    // The same of any run. Three slots are looked for first: on a full shelf all the smallest runs have three.
+    #[cycle(branch_node)]
+    fn branch(&self, bounds: &Bounds) -> bool
+        ensures { result ≡ is_answer self.now bounds.now }
+    {
+        let c = self.order.len();
+        if c == 3 {
+            return self.three_slots(bounds);
+        }
+        if c < 3 {
+            return self.few_slots(bounds);
+        }
+        self.node(bounds)
+    }
+
+    // The same of a run that is not empty: its node is allowed, and its branches have its bounds with one replaced: on s the left branch
+    // ends at the node's key, the right branch starts after it.
+    #[cycle(branch_node)]
+    fn node(&self, bounds: &Bounds) -> bool
+        requires { 0 < length self.now.order.now }
+        ensures { result ≡ is_answer self.now bounds.now }
+    {
+        let h = self.order.len() / 2;
+        if !self.allowed(bounds, h) {
+            return false;
+        }
+        let x = self.key_at(h);
+        let mut before = *bounds;
+        before.end_at(self.s, x);
+        if !self.left(h).branch(&before) {
+            return false;
+        }
+        let mut after = *bounds;
+        after.start_after(self.s, x);
+        self.right(h).branch(&after)
+    }
 }
 
-// The same of one number.
-fn allowed(k: usize, m: usize, points: &[i32], least: [u32; 4], end: [u32; 4], p: u32) -> bool
-    requires { RunKnown k m points.now (p ∷ []) }
-    ensures { result ≡ number_allowed k m points.now least end p }
+// Whether no slot holds a dead number. Where each number has a slot none is dead, and nothing is read.
+fn none_dead(live: &[u8], order: &[u32]) -> bool
+    requires { length order.now ≡ live_count (length live.now) live.now }
+    ensures { NoneDead (length live.now) live.now order.now result }
 {
-    three_allowed(k, m, points, least, end, p, p, p)
-}
-
-// Whether the run, of two slots at most, is a branch whose node splits on dimension s, with every number allowed.
-fn few_slots(
-    k: usize,
-    m: usize,
-    points: &[i32],
-    order: &[u32],
-    s: usize,
-    least: [u32; 4],
-    end: [u32; 4],
-) -> bool
-    requires descends { Descends k m points.now s least end order.now }
-    requires order_len_bound { length order.now < 3 }
-    ensures { result ≡ branch_allowed k m points.now least end s order.now }
-{
-    let c = order.len();
-    if c == 0 {
+    if order.len() == live.len() {
         return true;
     }
-    let q = order[0];
-    if c == 1 {
-        return allowed(k, m, points, least, end, q);
-    }
-    let p = order[1];
-    if !three_allowed(k, m, points, least, end, p, q, q) {
-        return false;
-    }
-    key(k, points, s, q) < key(k, points, s, p)
+    all_live(live, order)
 }
 
-// The same of a run of three slots: its node and the two slots that are its branches.
-fn three_slots(
-    k: usize,
-    m: usize,
-    points: &[i32],
-    order: &[u32],
-    s: usize,
-    least: [u32; 4],
-    end: [u32; 4],
-) -> bool
-    requires descends { Descends k m points.now s least end order.now }
-    requires order_len { length order.now ≡ 3 }
-    ensures { result ≡ branch_allowed k m points.now least end s order.now }
+// Whether the order, which has a slot for each live number of the stock, is their tree: the descent from the root, where every key is allowed. Where
+// some number is dead the slots are gone through first, so that no key of a dead number is formed.
+pub fn check(stock: &Stock, order: &[u32]) -> bool
+    requires tested_points { TestedPoints (stock_of stock.now) }
+    requires order_len { length order.now ≡ live_count stock.now.n stock.now.live.now }
+    ensures { result
+        ≡ is_tree
+        stock.now.k
+        (coord stock.now.k stock.now.points.now)
+        (is_live stock.now.n stock.now.live.now)
+        stock.now.n
+        order.now }
 {
-    let p = order[1];
-    let q = order[0];
-    let r = order[2];
-    if !three_allowed(k, m, points, least, end, p, q, r) {
-        return false;
-    }
-    let x = key(k, points, s, p);
-    (key(k, points, s, q) < x) & (x < key(k, points, s, r))
-}
-
-// The same of any run. Three slots are looked for first: on a full shelf all the smallest runs have three.
-#[cycle(branch_node)]
-fn branch(
-    k: usize,
-    m: usize,
-    points: &[i32],
-    order: &[u32],
-    s: usize,
-    least: [u32; 4],
-    end: [u32; 4],
-) -> bool
-    requires { Descends k m points.now s least end order.now }
-    ensures { result ≡ branch_allowed k m points.now least end s order.now }
-{
-    let c = order.len();
-    if c == 3 {
-        return three_slots(k, m, points, order, s, least, end);
-    }
-    if c < 3 {
-        return few_slots(k, m, points, order, s, least, end);
-    }
-    node(k, m, points, order, s, least, end)
-}
-
-// The same of a run that is not empty: its node is allowed, and its branches have its bounds with one replaced: on s the left branch
-// ends at the node's key, the right branch starts after it.
-#[cycle(branch_node)]
-fn node(
-    k: usize,
-    m: usize,
-    points: &[i32],
-    order: &[u32],
-    s: usize,
-    least: [u32; 4],
-    end: [u32; 4],
-) -> bool
-    requires descends { Descends k m points.now s least end order.now }
-    requires order_nonzero { 0 < length order.now }
-    ensures { result ≡ branch_allowed k m points.now least end s order.now }
-{
-    let h = order.len() / 2;
-    let p = order[h];
-    if !allowed(k, m, points, least, end, p) {
-        return false;
-    }
-    let x = key(k, points, s, p);
-    let n = next_axis(k, s);
-    let mut left_end = end;
-    left_end[s] = x;
-    if !branch(k, m, points, &order[0..h], n, least, left_end) {
-        return false;
-    }
-    let mut right_least = least;
-    right_least[s] = x + 1;
-    let r = h + 1;
-    branch(k, m, points, &order[r..], n, right_least, end)
-}
-
-// Whether no slot holds a dead number. Where each of the n numbers has a slot none is dead, and nothing is read.
-fn none_dead(n: usize, live: &[u8], order: &[u32]) -> bool
-    requires live_len { length live.now ≡ n }
-    requires order_len { length order.now ≡ live_count n live.now }
-    ensures { NoneDead n live.now order.now result }
-{
-    if order.len() == n {
-        return true;
-    }
-    all_live(n, live, order)
-}
-
-// Whether the order, which has a slot for each live number of n, is their tree: the descent from the root, where every key is allowed. Where some number
-// is dead the slots are gone through first, so that no key of a dead number is formed.
-pub fn check(k: usize, n: usize, points: &[i32], live: &[u8], order: &[u32]) -> bool
-    requires tested_points { TestedPoints (stock k n points.now live.now) }
-    requires order_len { length order.now ≡ live_count n live.now }
-    ensures { result ≡ is_tree k (coord k points.now) (is_live n live.now) n order.now }
-{
-    if !none_dead(n, live, order) {
+    if !none_dead(stock.live, order) {
         return false;
     }
     if order.len() == 0 {
         return true;
     }
-    let least = [0; 4];
-    let end = [4294967295; 4];
-    node(k, n, points, order, 0, least, end)
+    let root = Branch { stock, order, s: 0 };
+    root.node(&Bounds::of_root())
 }

@@ -4,63 +4,47 @@
 // sample of them, or, where the passes have narrowed the part too little, from them all by counting, which finds the number itself.
 ghost use Rattle.std.specs.Prelude.{◌+◌, ◌*◌, ◌<◌, ◌≤◌, length};
 ghost use Rattle.arrange.specs.Parted.{Parted};
-ghost use Rattle.arrange.specs.LeastFirst.{IfLess, LeastFirst};
+ghost use Rattle.arrange.specs.LeastFirst.{LeastFirst};
 ghost use Rattle.arrange.specs.Chosen.{Narrowed, Chosen};
 ghost use Rattle.arrange.specs.Passes.{PivotOf};
 
 // Puts the numbers of the places from a to e that are below the pivot first, and returns where the others start.
-// Every number is swapped, and the start moves by one or by none, so that no branch waits on what the numbers are.
+// Every number is swapped, and the start moves by one or by none, so that no branch waits on what the numbers are. The swap is written out, and by
+// index: `swap` of a slice asks which of its places comes first, and choosing takes more than twice the time by it.
 fn partition(run: &mut [u32], a: usize, e: usize, pivot: u32) -> usize
     requires a_le_e { a ≤ e }
     requires e_in_bounds { e ≤ length run.old }
     ensures { Parted run.old run.new a e pivot e result }
 {
     let mut r = a;
-    let mut t = a;
-    while t < e {
+    for t in a..e {
         let x = run[t];
         run[t] = run[r];
         run[r] = x;
         r += (x < pivot) as usize;
-        t += 1;
     }
     r
 }
 
-// The lesser of two numbers.
-fn lesser(x: u32, y: u32) -> u32
-    ensures { IfLess x y x y result }
-{
-    if x < y { x } else { y }
-}
-
-// The greater of two numbers.
-fn greater(x: u32, y: u32) -> u32
-    ensures { IfLess x y y x result }
-{
-    if x < y { y } else { x }
-}
-
 // Puts a least number of the places from a to e at a. It is carried along, and each place is left the greater of it and its own number.
+// An index, since over the places lent as a part of the run (`iter_mut`) the whole builder takes a twenty-fifth more time.
 fn least_first(run: &mut [u32], a: usize, e: usize)
     requires a_lt_e { a < e }
     requires e_in_bounds { e ≤ length run.old }
     ensures { LeastFirst run.old run.new a e e }
 {
     let mut least = run[a];
-    let mut t = a + 1;
-    while t < e {
+    for t in a + 1..e {
         let x = run[t];
-        run[t] = greater(least, x);
-        least = lesser(least, x);
-        t += 1;
+        run[t] = x.max(least);
+        least = x.min(least);
     }
     run[a] = least;
 }
 
 // The median of three numbers.
 fn median(x: u32, y: u32, z: u32) -> u32 {
-    greater(lesser(x, y), lesser(greater(x, y), z))
+    x.min(y).max(x.max(y).min(z))
 }
 
 // The median of the numbers at a place and one and two steps further.
@@ -84,10 +68,10 @@ fn sampled_pivot(part: &[u32], rank: usize) -> u32
     let y = median_from(part, 3 * step, step);
     let z = median_from(part, 6 * step, step);
     if rank < n / 4 {
-        return lesser(lesser(x, y), z);
+        return x.min(y).min(z);
     }
     if n - n / 4 < rank {
-        return greater(greater(x, y), z);
+        return x.max(y).max(z);
     }
     median(x, y, z)
 }
@@ -96,13 +80,7 @@ fn sampled_pivot(part: &[u32], rank: usize) -> u32
 fn count_below(part: &[u32], pivot: u32) -> u32
     requires { length part.now ≤ 65535 }
 {
-    let mut count: u32 = 0;
-    let mut t: usize = 0;
-    while t < part.len() {
-        count += (part[t] < pivot) as u32;
-        t += 1;
-    }
-    count
+    part.iter().map(|x| (*x < pivot) as u32).sum()
 }
 
 // The greatest pivot from lo to top with no more than `rank` numbers of the part below it, by halving the range.
@@ -124,8 +102,8 @@ fn counted_pivot(part: &[u32], rank: usize, lo: u32, top: u32) -> u32
 }
 
 // The pivot of a pass, one of 64, above lo and at most top. Every other one is the middle of that range; the others come from the numbers
-// of the part, by counting where it is late and else by a sample.
-fn next_pivot(part: &[u32], rank: usize, lo: u32, top: u32, pass: u32, late: bool) -> u32
+// of the part, by counting where it is longer than is due and else by a sample.
+fn next_pivot(part: &[u32], rank: usize, lo: u32, top: u32, pass: u32, due: usize) -> u32
     requires in_bounds { 8 < length part.now }
     requires part_len_bound { length part.now ≤ 65535 }
     requires lo_lt_top { lo < top }
@@ -135,18 +113,12 @@ fn next_pivot(part: &[u32], rank: usize, lo: u32, top: u32, pass: u32, late: boo
     if pass % 2 == 1 {
         return lo + (top - lo) / 2 + 1;
     }
-    let pivot = if late {
+    let pivot = if due < part.len() {
         counted_pivot(part, rank, lo, top)
     } else {
         sampled_pivot(part, rank)
     };
-    if pivot <= lo {
-        return lo + 1;
-    }
-    if top < pivot {
-        return top;
-    }
-    pivot
+    pivot.clamp(lo + 1, top)
 }
 
 // Puts the least numbers of the places from a to e at a and after it, up to the place m.
@@ -154,16 +126,13 @@ fn finish(run: &mut [u32], a: usize, e: usize, m: usize)
     requires { Narrowed run.old run.old m a e }
     ensures { Chosen run.old run.new m }
 {
-    let mut i = a;
-    while i < m {
+    for i in a..=m {
         least_first(run, i, e);
-        i += 1;
     }
-    least_first(run, i, e);
 }
 
 // Puts the number that belongs at the place m there. The part from a to e that holds it is narrowed by pivots between lo and top, and a
-// small part is finished by its least numbers. A part is late if it is longer than is due, which falls by an eighth with each pass.
+// small part is finished by its least numbers. What is due, the length that a part may have, falls by an eighth with each pass.
 pub fn choose(run: &mut [u32], m: usize)
     requires m_in_bounds { m < length run.old }
     requires run_len_bound { length run.old ≤ 65535 }
@@ -176,8 +145,7 @@ pub fn choose(run: &mut [u32], m: usize)
     let mut pass: u32 = 0;
     let mut due = e + e / 4;
     while 8 < e - a && a < m && lo < top {
-        let late = due < e - a;
-        let pivot = next_pivot(&run[a..e], m - a, lo, top, pass, late);
+        let pivot = next_pivot(&run[a..e], m - a, lo, top, pass, due);
         let r = partition(run, a, e, pivot);
         if m < r {
             e = r;

@@ -1,49 +1,38 @@
-// The shelf by its live bytes: the order filled with the live numbers, and whether the slots hold live numbers only.
+// The shelf by its live bytes, one for each number: the order filled with the live numbers, and whether the slots hold live numbers only.
 ghost use Rattle.std.specs.Prelude.{◌≡◌, ◌≤◌, length};
 ghost use Rattle.terms.specs.Tests.{every};
 ghost use Rattle.terms.specs.Live.{is_live, live_count};
 ghost use Rattle.terms.specs.Tree.{members};
 
-// Whether number p of n is live.
-fn is_live(n: usize, live: &[u8], p: u32) -> bool
-    requires { length live.now ≡ n }
-    ensures { result ≡ is_live n live.now p }
+// Whether number p is live.
+fn is_live(live: &[u8], p: u32) -> bool
+    ensures { result ≡ is_live (length live.now) live.now p }
 {
-    let i = p as usize;
-    if n <= i {
-        return false;
-    }
-    live[i] == 1
+    live.get(p as usize).is_some_and(|&byte| byte == 1)
 }
 
 // Whether every slot holds a live number. It is asked before any key is formed, since a dead number's coordinates may be any.
-pub fn all_live(n: usize, live: &[u8], order: &[u32]) -> bool
-    requires { length live.now ≡ n }
-    ensures { result ≡ every (is_live n live.now) order.now }
+pub fn all_live(live: &[u8], order: &[u32]) -> bool
+    ensures { result ≡ every (is_live (length live.now) live.now) order.now }
 {
-    for i in 0..order.len() {
-        if !is_live(n, live, order[i]) {
-            return false;
-        }
-    }
-    true
+    order.iter().all(|&p| is_live(live, p))
 }
 
 // Fills the order, which has a slot for each, with the live numbers, rising. Every number is written, and a dead one is written over by the next, so
 // that no branch is to be guessed. The last live number fills the last slot.
-pub fn fill_live(n: usize, live: &[u8], order: &mut [u32])
-    requires n_bound { n ≤ 65535 }
-    requires live_len { length live.now ≡ n }
-    requires order_len { length order.old ≡ live_count n live.now }
-    ensures { order.new ≡ members (is_live n live.now) n }
+pub fn fill_live(live: &[u8], order: &mut [u32])
+    requires live_len_bound { length live.now ≤ 65535 }
+    requires order_len { length order.old ≡ live_count (length live.now) live.now }
+    ensures { order.new ≡ members (is_live (length live.now) live.now) (length live.now) }
 {
     let mut at: usize = 0;
-    let mut p: usize = 0;
-    while at < order.len() {
+    for (p, &byte) in live.iter().enumerate() {
+        if at == order.len() {
+            return;
+        }
         order[at] = p as u32;
-        if live[p] == 1 {
+        if byte == 1 {
             at += 1;
         }
-        p += 1;
     }
 }

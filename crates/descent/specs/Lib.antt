@@ -8,4 +8,5 @@ pub mod Runs
 pub mod SlotsBox
 pub mod NumbersBox
 pub mod Root
+pub mod Shelf
 pub mod SettledSlots

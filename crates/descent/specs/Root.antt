@@ -8,7 +8,7 @@ use Rattle.terms.specs.Tests.{rising}
 use Rattle.terms.specs.Lent.{Stock, stock}
 use Rattle.terms.specs.Live.{is_live}
 use Rattle.terms.specs.Points.{coord, point_of, belongs_to, slots_of}
-use Rattle.terms.specs.Tree.{is_tree, each_once}
+use Rattle.terms.specs.Tree.{is_tree, tree_run, each_once}
 use Rattle.terms.specs.Box.{Box, root_box}
 use Rattle.theory.specs.Flags.{and_true}
 use Rattle.theory.specs.Counting.{same_length}
@@ -61,6 +61,10 @@ module _ {k n : ℕ} {points : List ℤ} {order : List ℕ} (w : Shelved k n poi
   pub shelved_known : Known k points order
   shelved_known = shelf_known lent order w.shelf w.tested
 
+  pub shelved_tree : tree_run (length order) k (coord k points) 0 order ≡ true
+  unfolding is_tree
+  shelved_tree = (and_true (each_once (is_live n w.live) n order) w.shelf).1
+
   -- As many slots as numbers: all of them belong.
   full : length order ≡ n → slots_of lent ≡ n
   full e = sym (stock_slots lent order (once lent order w.shelf)) ∙ e
@@ -89,7 +93,7 @@ module _ {k n : ℕ} {points : List ℤ} {order : List ℕ} (w : Shelved k n poi
       splits = w.tested.some;
       known = shelved_known;
       fuel = length order;
-      tree = rw (take-length order) (and_true (each_once (is_live n w.live) n order) w.shelf).1;
+      tree = rw (take-length order) shelved_tree;
     };
     alike = box.alike;
   }

@@ -6,4 +6,5 @@ pub mod numbers_box;
 pub mod points;
 pub mod root;
 pub mod runs;
+pub mod shelf;
 pub mod slots_box;

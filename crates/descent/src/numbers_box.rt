@@ -1,5 +1,5 @@
 // The root box over the numbers as they are lent, in the order of memory and in one pass, for a shelf on which none is dead: its slots hold each number once.
-ghost use Rattle.std.specs.Prelude.{◌≡◌, cond, ◌+◌, ◌%◌, ◌≤◌, length};
+ghost use Rattle.std.specs.Prelude.{◌≡◌, ◌+◌, ◌%◌, ◌≤◌, length};
 ghost use Rattle.terms.specs.Tests.{rising};
 ghost use Rattle.terms.specs.Points.{lone};
 ghost use Rattle.terms.specs.Box.{box_of};
@@ -18,13 +18,6 @@ struct Lanes {
     greatest: [i32; WIDTH],
 }
 
-// The first of two coordinates if the answer is yes, else the second.
-pub fn choose(answer: bool, x: i32, y: i32) -> i32
-    ensures { result ≡ cond answer x y }
-{
-    if answer { x } else { y }
-}
-
 // Deals count coordinates from place `from` on, the first of them to lane 0. The loop knows nothing of dimensions, so a full round is a few vector
 // instructions.
 fn deal(points: &[i32], from: usize, count: usize, lanes: Lanes) -> Lanes
@@ -34,22 +27,19 @@ fn deal(points: &[i32], from: usize, count: usize, lanes: Lanes) -> Lanes
     requires dealt { Dealt 24 (lone points.now) (lone points.now) from lanes.least lanes.greatest }
     ensures { Dealt 24 (lone points.now) (lone points.now) (from + count) result.least result.greatest }
 {
-    let mut least = lanes.least;
-    let mut greatest = lanes.greatest;
-    for j in 0..count {
-        let x = points[from + j];
-        let low = least[j];
-        let high = greatest[j];
-        least[j] = choose(x < low, x, low);
-        greatest[j] = choose(high < x, x, high);
+    let Lanes {
+        mut least,
+        mut greatest,
+    } = lanes;
+    for (j, &x) in points[from..from + count].iter().enumerate() {
+        least[j] = least[j].min(x);
+        greatest[j] = greatest[j].max(x);
     }
-    Lanes {
-        least: least,
-        greatest: greatest,
-    }
+    Lanes { least, greatest }
 }
 
-// Deals all coordinates, a full round at a time and then the rest.
+// Deals all coordinates, a full round at a time and then the rest. The rounds go by their numbers, since which lane a coordinate is dealt to is told by its
+// place among all: a chunk alone would have to be handed that place too.
 fn deal_all(points: &[i32]) -> Lanes
     ensures { Dealt 24 (lone points.now) (lone points.now) (length points.now) result.least result.greatest }
 {
@@ -70,22 +60,13 @@ pub fn numbers_box(k: usize, n: usize, points: &[i32]) -> CornerRows
     requires { NumbersKnown k n points.now }
     ensures { SlotsBoxed k points.now (rising 0 n) (box_of result) }
 {
-    let lanes = deal_all(points);
-    let least = lanes.least;
-    let greatest = lanes.greatest;
+    let Lanes { least, greatest } = deal_all(points);
     let mut low: [i32; 4] = [32767; 4];
     let mut high: [i32; 4] = [-32768; 4];
     for j in 0..WIDTH {
         let d = j % k;
-        let x = least[j];
-        let y = greatest[j];
-        let lowest = low[d];
-        let highest = high[d];
-        low[d] = choose(x < lowest, x, lowest);
-        high[d] = choose(highest < y, y, highest);
+        low[d] = low[d].min(least[j]);
+        high[d] = high[d].max(greatest[j]);
     }
-    CornerRows {
-        low: low,
-        high: high,
-    }
+    CornerRows { low, high }
 }

@@ -4,20 +4,15 @@ ghost use Rattle.terms.specs.Points.{coord};
 ghost use Rattle.terms.specs.Before as words;
 ghost use Rattle.descent.specs.Points.{HasPoint, PointAt};
 
+use region::faces::row_of;
+
 // The k coordinates of point p in a value of their own, so that many faces can be tested without reading them again. A point lent alone is
 // point 0 of its k coordinates.
 pub fn point_at(k: usize, points: &[i32], p: usize) -> [i32; 4]
     requires { HasPoint k points.now p }
     ensures { PointAt k points.now p result }
 {
-    let start = p * k;
-    let mut x: [i32; 4] = [0; 4];
-    for d in 0..4 {
-        if d < k {
-            x[d] = points[start + d];
-        }
-    }
-    x
+    row_of(k, points, p)
 }
 
 // Coordinate d of point p. A point in a value is kept in registers, and taking a coordinate by its number would put it into memory.
@@ -38,11 +33,5 @@ pub fn before(k: usize, points: &[i32], d: usize, p: u32, q: u32) -> bool
 {
     let x = coordinate(k, points, p as usize, d);
     let y = coordinate(k, points, q as usize, d);
-    if x < y {
-        return true;
-    }
-    if y < x {
-        return false;
-    }
-    p < q
+    (x, p) < (y, q)
 }

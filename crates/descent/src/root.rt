@@ -1,9 +1,11 @@
-// The root box of a shelf.
+// The root box of a shelf, and the shelf as one value with it.
 ghost use Rattle.terms.specs.Box.{box_of};
 ghost use Rattle.descent.specs.SlotsBox.{SlotsBoxed};
 ghost use Rattle.descent.specs.Root.{Shelved};
+ghost use Rattle.descent.specs.Shelf.{ShelfOf};
 
 use crate::numbers_box::numbers_box;
+use crate::shelf::Shelf;
 use crate::slots_box::slots_box;
 use terms::CornerRows;
 
@@ -16,4 +18,18 @@ pub fn root_box(k: usize, n: usize, points: &[i32], order: &[u32]) -> CornerRows
         return numbers_box(k, n, points);
     }
     slots_box(k, points, order)
+}
+
+// The shelf that the slots of n numbers are, with its root box.
+pub fn shelf_of<'a>(k: usize, n: usize, points: &'a [i32], order: &'a [u32]) -> Shelf<'a>
+    requires { Shelved k n points.now order.now }
+    ensures { ShelfOf k points.now order.now result }
+{
+    let rows = root_box(k, n, points, order);
+    Shelf {
+        k,
+        points,
+        order,
+        rows,
+    }
 }

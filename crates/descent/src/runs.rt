@@ -1,8 +1,10 @@
-// A branch as a value, and the two branches of its node.
+// A branch as a value: the root of a shelf, and the two branches of a branch's node.
 ghost use Rattle.std.specs.Prelude.{◌+◌, ◌-◌, ◌/◌, ◌^◌, ◌<◌};
 ghost use Rattle.terms.specs.Box.{box_of, left_box, right_box};
 ghost use Rattle.descent.specs.Runs.{Child};
+ghost use Rattle.descent.specs.Shelf.{RootRun};
 
+use crate::shelf::Shelf;
 use region::boxes::{left_box, right_box};
 use terms::CornerRows;
 
@@ -15,6 +17,18 @@ pub struct Run {
     pub rows: CornerRows,
 }
 
+// The root of a shelf: all its slots, in its root box.
+pub fn root_run(shelf: &Shelf) -> Run
+    ensures { RootRun shelf.now result }
+{
+    Run {
+        start: 0,
+        length: shelf.order.len(),
+        axis: 0,
+        rows: shelf.rows,
+    }
+}
+
 // The left branch of a branch whose node has the coordinate x on the dimension on which it splits. The left branch's own node splits on the next, which
 // is handed over, since it is that of the right branch too.
 pub fn left_run(run: Run, x: i32, next: usize) -> Run
@@ -22,13 +36,11 @@ pub fn left_run(run: Run, x: i32, next: usize) -> Run
     ensures { Child run.start (run.length / 2) next (left_box (box_of run.rows) run.axis x)
         result.start result.length result.axis (box_of result.rows) }
 {
-    let rows = run.rows;
-    let left = left_box(rows, run.axis, x);
     Run {
-        start: run.start,
         length: run.length / 2,
         axis: next,
-        rows: left,
+        rows: left_box(run.rows, run.axis, x),
+        ..run
     }
 }
 
@@ -40,13 +52,11 @@ pub fn right_run(run: Run, x: i32, next: usize) -> Run
     ensures { Child (run.start + run.length / 2 + 1) (run.length - run.length / 2 - 1) next (right_box (box_of run.rows) run.axis x)
         result.start result.length result.axis (box_of result.rows) }
 {
-    let rows = run.rows;
-    let right = right_box(rows, run.axis, x);
     let half = run.length / 2;
     Run {
         start: run.start + half + 1,
         length: run.length - half - 1,
         axis: next,
-        rows: right,
+        rows: right_box(run.rows, run.axis, x),
     }
 }

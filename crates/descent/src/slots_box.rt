@@ -4,7 +4,6 @@ ghost use Rattle.terms.specs.Box.{box_of};
 ghost use Rattle.descent.specs.Standing.{Known};
 ghost use Rattle.descent.specs.SlotsBox.{Rows, Widened, SlotsBoxed};
 
-use crate::numbers_box::choose;
 use crate::points::point_at;
 use terms::CornerRows;
 
@@ -14,19 +13,12 @@ fn widened(rows: CornerRows, x: [i32; 4]) -> CornerRows
     requires { Rows rows.low rows.high }
     ensures { Widened rows.low rows.high x result.low result.high }
 {
-    let mut low = rows.low;
-    let mut high = rows.high;
+    let CornerRows { mut low, mut high } = rows;
     for d in 0..4 {
-        let y = x[d];
-        let lowest = low[d];
-        let highest = high[d];
-        low[d] = choose(y < lowest, y, lowest);
-        high[d] = choose(highest < y, y, highest);
+        low[d] = low[d].min(x[d]);
+        high[d] = high[d].max(x[d]);
     }
-    CornerRows {
-        low: low,
-        high: high,
-    }
+    CornerRows { low, high }
 }
 
 // The root box of the numbers in the slots, if there are any: each slot's point is taken in.
@@ -39,10 +31,8 @@ pub fn slots_box(k: usize, points: &[i32], order: &[u32]) -> CornerRows
         low: [32767; 4],
         high: [-32768; 4],
     };
-    for i in 0..order.len() {
-        let p = order[i] as usize;
-        let x = point_at(k, points, p);
-        rows = widened(rows, x);
+    for &p in order {
+        rows = widened(rows, point_at(k, points, p as usize));
     }
     rows
 }

@@ -52,3 +52,7 @@ found_stops ys f m = found_refused (first_stops ys f.first m) m
 -- and one that was passed leaves the number to the others, and tells the slots.
 pub found_goes_on : {xs ys : List Refusal} {v c d slots : ℕ} → no_zero xs ≡ true → Found xs v c slots → c ≡ 0 → First ys d → Found (xs ++ ys) v d slots
 found_goes_on n f z g = record { first = first_goes_on n f.first z g; many = λ e. f.many z }
+
+-- The same of what `?` goes on after.
+pub first_after : {xs ys : List Refusal} {d : ℕ} → no_zero xs ≡ true → First xs 0 → First ys d → First (xs ++ ys) d
+first_after n f g = first_goes_on n f refl g

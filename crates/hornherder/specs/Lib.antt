@@ -1,6 +1,8 @@
+pub mod Between
 pub mod Ranges
 pub mod First
 pub mod Live
+pub mod TestedRun
 pub mod ArrangeOutcome
 pub mod ArrangePromises
 pub mod ListOutcome

@@ -1,5 +1,6 @@
 -- What the passes over the live bytes require and find, and the turns of their loops.
-use Rattle.std.specs.Prelude.{◌≡◌, Bool, List, ℕ, ◌+◌, ◌*◌, ◌≤◌, ◌<◌, length, get_or, take, drop, ℤ, pos}
+use Rattle.std.specs.Prelude.{◌≡◌, Bool, true, false, Option, Some, None, List, ℕ, ◌+◌, ◌*◌, ◌≤◌, ◌<◌, length, get_or, take, drop, ℤ, pos}
+use Rattle.std.specs.Bool.{then_some}
 use Rattle.std.proofs.Common.{sym, ap, ◌∙◌, mul-le-mul, arith, length-take, length-drop, get_or-take, get_or-drop}
 use Rattle.std.proofs.Math.Seq.{take-length}
 use Rattle.terms.specs.Tests.{bit, count, every}
@@ -15,12 +16,22 @@ use Rattle.theory.specs.Counting.{every_at, at_every, count_next}
 use Rattle.theory.specs.LiveNumbers.{live_bytes}
 use Rattle.theory.specs.FirstRefusal.{Passed, passed_parts}
 use Rattle.theory.specs.RefusalsPassed.{shape_passed, live_passed}
+use Rattle.theory.specs.TakeCall.{TakePassed}
 use Rattle.hornherder.specs.Ranges.{Through, through_all}
 
 -- Whether each live byte is 0 or 1, and how many numbers are live.
 pub record Counted (n : ℕ) (live : List ℕ) (all : Bool) (many : ℕ) : Type 0 where
   pub all_bytes : all ≡ every is_live_byte live
   pub live_many : many ≡ live_count n live
+
+-- What one pass over the bytes gives: how many are live where each byte is 0 or 1, and none where one is not.
+abbrev pub CountedAs : List ℕ → Option ℕ → Type 0
+CountedAs live (Some many) = Counted (length live) live true many
+CountedAs live None = every is_live_byte live ≡ false
+
+pub counted_as : {live : List ℕ} {many : ℕ} (all : Bool) {o : Option ℕ} → o ≡ then_some all many → Counted (length live) live all many → CountedAs live o
+counted_as true e w = rw e w
+counted_as false e w = rw e (sym w.all_bytes)
 
 -- k coordinates are lent for each of the n numbers, and a live byte.
 pub record LivePoints (k n : ℕ) (points : List ℤ) (live : List ℕ) : Type 0 where
@@ -35,6 +46,10 @@ stock_lent s w =
     let p = passed_parts (shape_refusals s.k s.n s.points) (live_refusals s.n s.live) w in
     let shaped = shape_passed s.k s.n s.points p.0 in
     record { few = shaped.dimension.1; many = shaped.many; size = shaped.size; bytes = (live_passed s.n s.live p.1).bytes }
+
+-- And so with what the take call has tested.
+pub passed_lent : {k n : ℕ} {points : List ℤ} {live : List ℕ} {point : List ℤ} → TakePassed k n points live point → LivePoints k n points live
+passed_lent t = record { few = t.shaped.dimension.1; many = t.shaped.many; size = t.shaped.size; bytes = t.live_tested.bytes }
 
 -- Of the first i live bytes: whether each is 0 or 1, and how many are 1.
 pub record CountedTo (live : List ℕ) (i : ℕ) (all : Bool) (many : ℕ) : Type 0 where

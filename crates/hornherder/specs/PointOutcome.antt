@@ -2,9 +2,8 @@
 use Rattle.std.specs.Prelude.{◌≡◌, refl, ◌≢◌, List, ℕ, length, ℤ}
 use Rattle.std.proofs.Common.{sym, ap, ◌∙◌}
 use Rattle.terms.specs.declared.Reading.{Reading}
-use Rattle.terms.specs.declared.Given.{Given}
 use Rattle.terms.specs.declared.Making.{Making}
-use Rattle.terms.specs.Reading.{gives}
+use Rattle.terms.specs.Reading.{Given, gives}
 use Rattle.terms.specs.Refusals.{length_refusals, value_refusals}
 use Rattle.terms.specs.PointCall.{numbers_of, place_of, point_code, point_answer, point_after, MadeAs}
 use Rattle.theory.specs.FirstRefusal.{no_zero, if_refused}

@@ -48,5 +48,10 @@ module _ {A : Type 0} (z : A) {test : A → Bool} {xs : List A} {i : ℕ} {all :
   pub through_failed : i < length xs → test (get_or xs i z) ≡ false → Through test xs (i + 1) false
   through_failed l p = record { so_far = sym (every_next test z xs i l ∙ and_no (every test (take i xs)) p) }
 
+-- One item more, whichever way it answers.
+pub through_more : {A : Type 0} (z : A) {test : A → Bool} {xs : List A} {i : ℕ} {all : Bool} → Through test xs i all → i < length xs
+    → Through test xs (i + 1) (all && test (get_or xs i z))
+through_more z {test} {xs} {i} t l = record { so_far = rw t.so_far (sym (every_next test z xs i l)) }
+
 pub through_all : {A : Type 0} {test : A → Bool} {xs : List A} {i : ℕ} {all : Bool} → Through test xs i all → i ≡ length xs → all ≡ every test xs
 through_all {A} {test} {xs} t e = t.so_far ∙ ap (λ (ys : List A). every test ys) (ap (λ (n : ℕ). take n xs) e ∙ take-length xs)

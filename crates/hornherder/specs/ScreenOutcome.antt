@@ -1,11 +1,12 @@
 -- What the screen call gives, put together: where its first refusal is not 0, the refusal; where it is 0, what the screen found.
-use Rattle.std.specs.Prelude.{◌≡◌, ◌≢◌, Bool, true, false, List, ℕ, ◌≤◌, length, ℤ}
+use Rattle.std.specs.Prelude.{◌≡◌, ◌≢◌, Bool, true, false, Option, Some, None, is_some, unwrap_or, List, ℕ, ◌≤◌, length, ℤ}
 use Rattle.std.proofs.Math.Path.{refl}
 use Rattle.std.proofs.Common.{sym, ◌∙◌, arith}
 use Rattle.terms.specs.Lent.{Stock, Order, Faces}
 use Rattle.terms.specs.Points.{point_of}
 use Rattle.terms.specs.Tree.{shelf_run}
 use Rattle.terms.specs.Region.{Region, region}
+use Rattle.terms.specs.AnswersForC.{found_of}
 use Rattle.terms.specs.ScreenCall.{screen_refusals, screen_code, screen_answer}
 use Rattle.theory.specs.BoxFuel.{visits_le_slots}
 use Rattle.theory.specs.FirstRefusal.{if_refused}
@@ -41,3 +42,9 @@ module _ (s : Stock) (o : Order) (f : Faces) {c : ℕ} (first : First (screen_re
       → record { code = 0; found = 0; number = 0; visits = u } ≡ screen_answer s o f
   unfolding screen_answer
   screen_none z w = rw (← screen_coded, z, w.none refl, w.visited) refl
+
+  -- Either way.
+  pub screen_done : c ≡ 0 → (number : Option ℕ) {u : ℕ} → ShelfScreened (region s.k f) (point_of s) (shelf_run s o) (is_some number) (unwrap_or number 0) u
+      → found_of number u ≡ screen_answer s o f
+  screen_done z (Some p) w = screen_found z w
+  screen_done z None w = screen_none z w

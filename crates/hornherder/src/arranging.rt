@@ -1,65 +1,40 @@
 // The arrange call.
-ghost use Rattle.terms.specs.Lent.{stock, order_of};
-ghost use Rattle.terms.specs.Live.{live_count};
+ghost use Rattle.std.specs.Prelude.{◌≡◌, IfOk};
+ghost use Rattle.terms.specs.Lent.{order_of};
+ghost use Rattle.terms.specs.LentValues.{stock_of};
+ghost use Rattle.terms.specs.RefusalNumbers.{code_of};
+ghost use Rattle.terms.specs.AnswersForC.{arranging_of};
 ghost use Rattle.terms.specs.ArrangeCall.{arrange_refusals, ArrangedAs};
-ghost use Rattle.hornherder.specs.First.{Found};
+ghost use Rattle.hornherder.specs.First.{First};
 
-use crate::refuse::{Tested, live_coordinate_refusal, room_refusal, stock_refusal};
+use crate::refuse::{test_live_coordinates, test_room, test_stock};
+use crate::shaped::Shaped;
 use arrange::build::build;
 use arrange::check::check;
-use terms::Arranging;
+use terms::lent::Stock;
+use terms::refusal::Refusal;
 
 // Arranges the first v places of the order as the tree of the v live points, and says whether they were it already; then nothing is written. A refusal
-// has its number and 0, and writes nothing.
-pub fn hornherder_arrange(
-    k: usize,
-    n: usize,
-    points: &[i32],
-    live: &[u8],
-    order: &mut [u32],
-) -> Arranging
-    ensures { ArrangedAs (stock k n points.now live.now) (order_of order.old) result (order_of order.new) }
+// writes nothing.
+pub fn arrange(stock: &Stock, order: &mut [u32]) -> Result<bool, Refusal>
+    ensures { ArrangedAs (stock_of stock.now) (order_of order.old) (arranging_of result) (order_of order.new) }
 {
-    let tested = arrange_refusal(k, n, points, live, order);
-    if tested.code != 0 {
-        return Arranging {
-            code: tested.code,
-            already: 0,
-        };
+    let shaped = test_arrange(stock, order)?;
+    let run = &mut order[..shaped.slots];
+    if check(stock, run) {
+        return Ok(true);
     }
-    let v = tested.slots;
-    if check(k, n, points, live, &order[0..v]) {
-        return Arranging {
-            code: 0,
-            already: 1,
-        };
-    }
-    build(k, n, points, live, &mut order[..v]);
-    Arranging {
-        code: 0,
-        already: 0,
-    }
+    build(stock, run);
+    Ok(false)
 }
 
-// The first of 1, 2, 3, 15, 4 and 5 that holds of the arrange call's arguments, or 0 and how many slots the shelf has.
-pub fn arrange_refusal(k: usize, n: usize, points: &[i32], live: &[u8], order: &[u32]) -> Tested
-    ensures { Found (arrange_refusals (stock k n points.now live.now) (order_of order.now)) (live_count n live.now) result.code result.slots }
+// The first of 1, 2, 3, 15, 4 and 5 that holds of the arrange call's arguments, or the stock as one of the right shape.
+pub(crate) fn test_arrange<'a>(stock: &Stock<'a>, order: &[u32]) -> Result<Shaped<'a>, Refusal>
+    ensures first { First (arrange_refusals (stock_of stock.now) (order_of order.now)) (code_of result) }
+    ensures same { IfOk result (λ shaped. shaped.stock ≡ stock.now) }
 {
-    let stocked = stock_refusal(k, n, points, live);
-    if stocked.code != 0 {
-        return stocked;
-    }
-    let v = stocked.slots;
-    let room = room_refusal(v, order.len());
-    if room != 0 {
-        return Tested {
-            code: room,
-            slots: 0,
-        };
-    }
-    let coordinate = live_coordinate_refusal(k, n, points, live);
-    Tested {
-        code: coordinate,
-        slots: v,
-    }
+    let shaped = test_stock(stock)?;
+    test_room(shaped.slots, order.len())?;
+    test_live_coordinates(&shaped)?;
+    Ok(shaped)
 }

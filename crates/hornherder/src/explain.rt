@@ -1,119 +1,45 @@
 // The explain call.
-ghost use Rattle.std.specs.Prelude.{◌≡◌, ◌<◌};
-ghost use Rattle.terms.specs.Lent.{stock, order_of, faces};
-ghost use Rattle.terms.specs.Live.{live_count};
-ghost use Rattle.terms.specs.ExplainCall.{explain_refusals, explain_answer, explaining};
+ghost use Rattle.std.specs.Prelude.{◌≡◌, IfOk};
+ghost use Rattle.terms.specs.Lent.{order_of};
+ghost use Rattle.terms.specs.LentValues.{stock_of, lent_faces};
+ghost use Rattle.terms.specs.Tree.{shelf_run};
+ghost use Rattle.terms.specs.RefusalNumbers.{code_of};
+ghost use Rattle.terms.specs.AnswersForC.{explaining_of};
+ghost use Rattle.terms.specs.ExplainCall.{explain_refusals, explain_answer};
 ghost use Rattle.theory.specs.Reasons.{Named};
-ghost use Rattle.hornherder.specs.First.{Found};
+ghost use Rattle.hornherder.specs.First.{First};
 
-use crate::refuse::{Tested, dead_refusal};
-use crate::screen::screen_refusal;
-use descent::root::root_box;
+use crate::faces::tested_faces;
+use crate::refuse::test_live;
+use crate::screen::test_screen;
+use descent::root::shelf_of;
 use reason::reason;
-use terms::{Explaining, Reason};
+use terms::Reason;
+use terms::lent::{Faces, Stock};
+use terms::refusal::Refusal;
 
-// Why a picture is inside or outside a region: one of four reasons with a slot, and for outside a face and the picture's margin to it. A refusal has its
-// number and zeros.
-pub fn hornherder_explain(
-    k: usize,
-    n: usize,
-    h: usize,
+// Why a picture is inside or outside a region: one of four reasons with a slot, and for outside a face and the picture's margin to it. The slot is below
+// 65,536 and the face below 256.
+pub fn explain(stock: &Stock, order: &[u32], faces: &Faces, number: u32) -> Result<Reason, Refusal>
+    ensures answered { explaining_of result ≡ explain_answer (stock_of stock.now) (order_of order.now) (lent_faces faces.now) number }
+    ensures small { IfOk result (λ why. Named 65536 256 why) }
+{
+    let run = test_explain(stock, order, faces, number)?;
+    let shelf = shelf_of(stock.k, stock.n, stock.points, run);
+    Ok(reason(&shelf, &tested_faces(stock.k, faces), number))
+}
+
+// The first of 1, 2, 3, 15, 4 to 8, 11, 9 and 17 that holds of the explain call's arguments, or the slots of the shelf.
+fn test_explain<'a>(
+    stock: &Stock,
+    order: &'a [u32],
+    faces: &Faces,
     number: u32,
-    points: &[i32],
-    live: &[u8],
-    order: &[u32],
-    normals: &[i32],
-    offsets: &[i64],
-    marks: &[u8],
-) -> Explaining
-    ensures { result ≡ explain_answer (stock k n points.now live.now) (order_of order.now)
-        (faces h normals.now offsets.now marks.now) number }
+) -> Result<&'a [u32], Refusal>
+    ensures first { First (explain_refusals (stock_of stock.now) (order_of order.now) (lent_faces faces.now) number) (code_of result) }
+    ensures slots { IfOk result (λ run. run.now ≡ shelf_run (stock_of stock.now) (order_of order.now)) }
 {
-    let tested = explain_refusal(
-        k, n, h, number, points, live, order, normals, offsets, marks,
-    );
-    if tested.code != 0 {
-        return Explaining {
-            code: tested.code,
-            reason: 0,
-            face: 0,
-            slot: 0,
-            margin: 0,
-        };
-    }
-    let v = tested.slots;
-    let rows = root_box(k, n, points, &order[0..v]);
-    explained(reason(
-        k,
-        points,
-        &order[0..v],
-        normals,
-        offsets,
-        marks,
-        rows,
-        number,
-    ))
-}
-
-// The numbers and values that a reason is answered by.
-fn explained(why: Reason) -> Explaining
-    requires { Named 65536 256 why }
-    ensures { result ≡ explaining why }
-{
-    match why {
-        Reason::InsideWithBranch(slot) => {
-            return answered(1, slot, 0, 0);
-        }
-        Reason::InsideByItself(slot) => {
-            return answered(2, slot, 0, 0);
-        }
-        Reason::OutsideWithBranch(slot, face, margin) => {
-            return answered(3, slot, face, margin);
-        }
-        Reason::OutsideByItself(slot, face, margin) => {
-            return answered(4, slot, face, margin);
-        }
-    }
-}
-
-// The answer of a call that is done.
-fn answered(reason: u8, slot: usize, face: usize, margin: i64) -> Explaining
-    requires slot_bound { slot < 65536 }
-    requires face_bound { face < 256 }
-    ensures { result ≡ record { code = 0; reason = reason; face = face; slot = slot; margin = margin } }
-{
-    Explaining {
-        code: 0,
-        reason: reason,
-        face: face as u8,
-        slot: slot as u16,
-        margin: margin,
-    }
-}
-
-// The first of 1, 2, 3, 15, 4 to 8, 11, 9 and 17 that holds of the explain call's arguments, or 0 and how many slots the shelf has.
-fn explain_refusal(
-    k: usize,
-    n: usize,
-    h: usize,
-    number: u32,
-    points: &[i32],
-    live: &[u8],
-    order: &[u32],
-    normals: &[i32],
-    offsets: &[i64],
-    marks: &[u8],
-) -> Tested
-    ensures { Found (explain_refusals (stock k n points.now live.now) (order_of order.now)
-        (faces h normals.now offsets.now marks.now) number) (live_count n live.now) result.code result.slots }
-{
-    let screened = screen_refusal(k, n, h, points, live, order, normals, offsets, marks);
-    if screened.code != 0 {
-        return screened;
-    }
-    let dead = dead_refusal(n, number, live);
-    Tested {
-        code: dead,
-        slots: screened.slots,
-    }
+    let run = test_screen(stock, order, faces)?;
+    test_live(stock.n, number, stock.live)?;
+    Ok(run)
 }

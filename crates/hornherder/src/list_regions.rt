@@ -1,183 +1,116 @@
 // The call that lists several regions.
-ghost use Rattle.std.specs.Prelude.{◌≡◌, ℕ, ◌≤◌, ◌<◌, length};
-ghost use Rattle.terms.specs.Lent.{stock, order_of, regions as lent_regions, regions_of};
-ghost use Rattle.terms.specs.Live.{live_count};
+ghost use Rattle.std.specs.Prelude.{◌≡◌, ℕ, ◌≤◌, ◌<◌, length, IfOk};
+ghost use Rattle.terms.specs.Lent.{order_of};
+ghost use Rattle.terms.specs.LentValues.{stock_of, lent_regions};
+ghost use Rattle.terms.specs.Tree.{shelf_run};
 ghost use Rattle.terms.specs.RegionFaces.{faces_in, faces_before};
+ghost use Rattle.terms.specs.RefusalNumbers.{code_of};
 ghost use Rattle.terms.specs.ListRegionsCall.{region_room_refusals, region_face_refusals, list_regions_refusals, RegionsListedAs};
-ghost use Rattle.hornherder.specs.First.{First, Found};
+ghost use Rattle.theory.specs.RefusalsPassed.{RegionsCounted};
+ghost use Rattle.hornherder.specs.First.{First};
 
 use crate::refuse::{
-    Tested, face_counts_refusal, face_slice_refusal, live_coordinate_refusal, region_count_refusal,
-    room_refusal, stock_refusal, tree_refusal,
+    test_face_counts, test_face_slices, test_live_coordinates, test_region_count, test_room,
+    test_stock, test_tree,
 };
-use descent::root::root_box;
+use descent::root::shelf_of;
+use regions_walk::joined::JoinedFaces;
 use regions_walk::walk_regions;
+use terms::lent::{Faces, Regions, Stock};
+use terms::refusal::Refusal;
 
 // The two lists of a shelf against each of several regions, region after region: v places for each in the list buffer, and three counts for each in the counts
-// buffer: inside, outside, visits. The order is checked once. Returns 0, or the number of a refusal, which writes nothing.
-pub fn hornherder_list_regions(
-    k: usize,
-    n: usize,
-    regions: usize,
-    points: &[i32],
-    live: &[u8],
+// buffer: inside, outside, visits. The order is checked once. A refusal writes nothing.
+pub fn list_regions(
+    stock: &Stock,
     order: &[u32],
-    face_counts: &[u32],
-    normals: &[i32],
-    offsets: &[i64],
-    marks: &[u8],
+    regions: &Regions,
     lists: &mut [u32],
     counts: &mut [u32],
-) -> u32
-    ensures { RegionsListedAs (stock k n points.now live.now) (order_of order.now)
-        (lent_regions regions face_counts.now normals.now offsets.now marks.now)
-        lists.old counts.old result lists.new counts.new }
+) -> Result<(), Refusal>
+    ensures { RegionsListedAs (stock_of stock.now) (order_of order.now) (lent_regions regions.now)
+        lists.old counts.old (code_of result) lists.new counts.new }
 {
-    let tested = list_regions_refusal(
-        k,
-        n,
-        regions,
-        points,
-        live,
-        order,
-        face_counts,
-        normals,
-        offsets,
-        marks,
-        lists,
-        counts,
-    );
-    if tested.code != 0 {
-        return tested.code;
-    }
-    let v = tested.slots;
-    let rows = root_box(k, n, points, &order[0..v]);
-    walk_regions(
-        k,
-        points,
-        &order[0..v],
-        face_counts,
-        normals,
-        offsets,
-        marks,
-        rows,
-        lists,
-        counts,
-    );
-    0
+    let run = test_list_regions(stock, order, regions, lists, counts)?;
+    let shelf = shelf_of(stock.k, stock.n, stock.points, run);
+    let joined = JoinedFaces {
+        k: stock.k,
+        face_counts: regions.face_counts,
+        normals: regions.normals,
+        offsets: regions.offsets,
+        marks: regions.marks,
+    };
+    walk_regions(&shelf, &joined, lists, counts);
+    Ok(())
 }
 
-// The first of 1, 2, 3, 15, 14, 4 to 8, 11 and 9 that holds of the call's arguments, or 0 and how many slots the shelf has.
-fn list_regions_refusal(
-    k: usize,
-    n: usize,
-    regions: usize,
-    points: &[i32],
-    live: &[u8],
-    order: &[u32],
-    face_counts: &[u32],
-    normals: &[i32],
-    offsets: &[i64],
-    marks: &[u8],
+// The first of 1, 2, 3, 15, 14, 4 to 8, 11 and 9 that holds of the call's arguments, or the slots of the shelf.
+fn test_list_regions<'a>(
+    stock: &Stock,
+    order: &'a [u32],
+    regions: &Regions,
     lists: &[u32],
     counts: &[u32],
-) -> Tested
-    ensures { Found (list_regions_refusals (stock k n points.now live.now) (order_of order.now)
-        (lent_regions regions face_counts.now normals.now offsets.now marks.now)
-        lists.now counts.now) (live_count n live.now) result.code result.slots }
+) -> Result<&'a [u32], Refusal>
+    ensures first { First (list_regions_refusals (stock_of stock.now) (order_of order.now) (lent_regions regions.now)
+        lists.now counts.now) (code_of result) }
+    ensures slots { IfOk result (λ run. run.now ≡ shelf_run (stock_of stock.now) (order_of order.now)) }
 {
-    let stocked = stock_refusal(k, n, points, live);
-    if stocked.code != 0 {
-        return stocked;
-    }
-    let v = stocked.slots;
-    let count = region_count_refusal(regions, face_counts);
-    if count != 0 {
-        return Tested {
-            code: count,
-            slots: 0,
-        };
-    }
-    let room = region_room_refusal(v, regions, order.len(), lists.len(), counts.len());
-    if room != 0 {
-        return Tested {
-            code: room,
-            slots: 0,
-        };
-    }
-    let coordinate = live_coordinate_refusal(k, n, points, live);
-    if coordinate != 0 {
-        return Tested {
-            code: coordinate,
-            slots: 0,
-        };
-    }
-    let face = region_face_refusal(k, face_counts, normals, offsets, marks);
-    if face != 0 {
-        return Tested {
-            code: face,
-            slots: 0,
-        };
-    }
-    let tree = tree_refusal(k, n, v, points, live, order);
-    Tested {
-        code: tree,
-        slots: v,
-    }
+    let shaped = test_stock(stock)?;
+    test_region_count(regions.region_count, regions.face_counts)?;
+    test_region_room(
+        shaped.slots,
+        regions.region_count,
+        order.len(),
+        lists.len(),
+        counts.len(),
+    )?;
+    test_live_coordinates(&shaped)?;
+    test_region_faces(stock.k, regions)?;
+    test_tree(&shaped, order)
 }
 
 // 4 where the order is short of its slots, the list buffer of as many places a region, or the counts buffer of three a region.
-fn region_room_refusal(
+fn test_region_room(
     slots: usize,
     regions: usize,
     order: usize,
     lists: usize,
     counts: usize,
-) -> u32
+) -> Result<(), Refusal>
     requires slots_bound { slots ≤ 65535 }
     requires regions_bound { regions ≤ 64 }
-    ensures { First (region_room_refusals slots regions order lists counts) result }
+    ensures { First (region_room_refusals slots regions order lists counts) (code_of result) }
 {
-    let order_room = room_refusal(slots, order);
-    if order_room != 0 {
-        return order_room;
-    }
-    let list_room = room_refusal(regions * slots, lists);
-    if list_room != 0 {
-        return list_room;
-    }
-    room_refusal(regions * 3, counts)
+    test_room(slots, order)?;
+    test_room(regions * slots, lists)?;
+    test_room(regions * 3, counts)
 }
 
-// The first of 6 of each region and of 7, 8 and 11 of the joined slices that holds, or 0.
-fn region_face_refusal(
-    k: usize,
-    face_counts: &[u32],
-    normals: &[i32],
-    offsets: &[i64],
-    marks: &[u8],
-) -> u32
-    requires k_bound { k ≤ 4 }
-    requires face_counts_len_bound { length face_counts.now ≤ 64 }
-    ensures { First (region_face_refusals k (regions_of face_counts.now normals.now offsets.now marks.now)) result }
+// The first of 6 of each region and of 7, 8 and 11 of the joined slices that holds.
+fn test_region_faces(k: usize, regions: &Regions) -> Result<(), Refusal>
+    requires { RegionsCounted regions.now.region_count regions.now.face_counts.now }
+    ensures { First (region_face_refusals k (lent_regions regions.now)) (code_of result) }
 {
-    let count = face_counts_refusal(face_counts);
-    if count != 0 {
-        return count;
-    }
-    let total = face_total(face_counts);
-    face_slice_refusal(k, total, normals, offsets, marks)
+    test_face_counts(regions.face_counts)?;
+    let joined = Faces {
+        h: face_total(regions.face_counts),
+        normals: regions.normals,
+        offsets: regions.offsets,
+        marks: regions.marks,
+    };
+    test_face_slices(k, &joined)
 }
 
 // How many faces the regions have together, once each has at most 32.
 fn face_total(face_counts: &[u32]) -> usize
-    requires face_counts_len_bound { length face_counts.now ≤ 64 }
+    requires few { length face_counts.now ≤ 64 }
     requires by_index { (r : ℕ) → r < length face_counts.now → faces_in face_counts.now r ≤ 32 }
     ensures { result ≡ faces_before face_counts.now (length face_counts.now) }
 {
     let mut total: usize = 0;
-    for r in 0..face_counts.len() {
-        total += face_counts[r] as usize;
+    for count in face_counts {
+        total += *count as usize;
     }
     total
 }

@@ -1,76 +1,55 @@
 // Passes over the live bytes: whether each is 0 or 1 and how many are 1, the lowest dead number, and whether the live numbers' coordinates are in range.
-ghost use Rattle.std.specs.Prelude.{◌≡◌, ◌||◌, not, ◌≤◌, ◌<◌, length};
+ghost use Rattle.std.specs.Prelude.{◌≡◌, ◌||◌, not, ◌≤◌, ◌<◌, length, ◌==◌, position};
 ghost use Rattle.terms.specs.Points.{coord};
-ghost use Rattle.terms.specs.Live.{is_live, lowest_dead};
+ghost use Rattle.terms.specs.Live.{is_live};
 ghost use Rattle.terms.specs.LivePoints.{point_in_range, members_in_range};
-ghost use Rattle.hornherder.specs.Live.{Counted, LivePoints};
+ghost use Rattle.hornherder.specs.Live.{CountedAs};
 
 use crate::ranges::all_within;
+use crate::shaped::Shaped;
 
-// What one pass finds of the live bytes: whether each is 0 or 1, and how many are 1.
-#[derive(Clone, Copy)]
-pub struct LiveBytes {
-    pub all: bool,
-    pub live: u32,
-}
-
-// Goes over the n live bytes once. It does not stop early, so that the loop can take several bytes at once.
-pub fn count_live(n: usize, live: &[u8]) -> LiveBytes
-    requires n_bound { n ≤ 65535 }
-    requires live_len { length live.now ≡ n }
-    ensures { Counted n live.now result.all result.live }
+// How many of the live bytes are 1, where each is 0 or 1. It does not stop early, so that the loop can take several bytes at once.
+pub fn count_live(live: &[u8]) -> Option<usize>
+    requires { length live.now ≤ 65535 }
+    ensures { CountedAs live.now result }
 {
     let mut all = true;
     let mut count: u32 = 0;
-    for i in 0..n {
-        let b = live[i];
-        if 1 < b {
-            all = false;
-        }
-        if b == 1 {
-            count += 1;
-        }
+    for byte in live {
+        all &= *byte <= 1;
+        count += u32::from(*byte == 1);
     }
-    LiveBytes {
-        all: all,
-        live: count,
-    }
+    all.then_some(count as usize)
 }
 
-// The lowest dead number, or n where all n are live.
-pub fn lowest_dead(n: usize, live: &[u8]) -> usize
-    requires { length live.now ≡ n }
-    ensures { result ≡ lowest_dead n live.now }
+// The lowest dead number, if any.
+pub fn lowest_dead(live: &[u8]) -> Option<usize>
+    ensures { result ≡ position (λ b. not (b == 1)) live.now }
 {
-    for p in 0..n {
-        if live[p] != 1 {
-            return p;
-        }
-    }
-    n
+    live.iter().position(|byte| *byte != 1)
 }
 
 // Whether number p is dead or its coordinates are in range.
-fn dead_or_within(k: usize, n: usize, points: &[i32], live: &[u8], p: usize) -> bool
-    requires live_points { LivePoints k n points.now live.now }
-    requires p_lt_n { p < n }
-    ensures { result ≡ not (is_live n live.now p) || point_in_range k (coord k points.now p) }
+fn dead_or_within(shaped: &Shaped, p: usize) -> bool
+    requires { p < shaped.now.stock.n }
+    ensures { result ≡ not (is_live shaped.now.stock.n shaped.now.stock.live.now p) || point_in_range shaped.now.stock.k (coord shaped.now.stock.k shaped.now.stock.points.now p) }
 {
-    if live[p] != 1 {
+    let stock = shaped.stock;
+    if stock.live[p] != 1 {
         return true;
     }
-    let start = p * k;
-    let end = start + k;
-    all_within(&points[start..end], -32768, 32767)
+    let start = p * stock.k;
+    let end = start + stock.k;
+    all_within(&stock.points[start..end], -32768, 32767)
 }
 
-// Whether the coordinates of every live number are in range, number by number.
-fn each_live_within(k: usize, n: usize, points: &[i32], live: &[u8]) -> bool
-    requires { LivePoints k n points.now live.now }
-    ensures { result ≡ members_in_range k (coord k points.now) (is_live n live.now) n }
+// Whether the coordinates of every live number are in range, number by number. An index, since a number has its byte in one slice and its coordinates in
+// k places of another.
+fn each_live_within(shaped: &Shaped) -> bool
+    ensures { result ≡ members_in_range shaped.now.stock.k (coord shaped.now.stock.k shaped.now.stock.points.now) (is_live shaped.now.stock.n shaped.now.stock.live.now) shaped.now.stock.n }
 {
-    for p in 0..n {
-        if !dead_or_within(k, n, points, live, p) {
+    for p in 0..shaped.stock.n {
+        if !dead_or_within(shaped, p) {
             return false;
         }
     }
@@ -79,12 +58,8 @@ fn each_live_within(k: usize, n: usize, points: &[i32], live: &[u8]) -> bool
 
 // The same. All lent coordinates are tested first, knowing nothing of the bytes, which are asked only where one is out of range: that is seldom, and
 // the first pass takes several coordinates at once.
-pub fn live_within(k: usize, n: usize, points: &[i32], live: &[u8]) -> bool
-    requires { LivePoints k n points.now live.now }
-    ensures { result ≡ members_in_range k (coord k points.now) (is_live n live.now) n }
+pub fn live_within(shaped: &Shaped) -> bool
+    ensures { result ≡ members_in_range shaped.now.stock.k (coord shaped.now.stock.k shaped.now.stock.points.now) (is_live shaped.now.stock.n shaped.now.stock.live.now) shaped.now.stock.n }
 {
-    if all_within(points, -32768, 32767) {
-        return true;
-    }
-    each_live_within(k, n, points, live)
+    all_within(shaped.stock.points, -32768, 32767) || each_live_within(shaped)
 }

@@ -1,8 +1,11 @@
-// The refusal tests, a function for each group that returns its number where a test of it holds, or 0; and the groups that several calls make together: the
+// The refusal tests, a function for each group, which gives its refusal where a test of it holds; and the groups that several calls make together: the
 // points' shape, the stock's, the faces' slices, and the faces.
-ghost use Rattle.std.specs.Prelude.{◌≡◌, ◌≤◌, length};
+ghost use Rattle.std.specs.Prelude.{◌≡◌, ◌≤◌, length, IfOk};
 ghost use Rattle.terms.specs.Lent.{stock, order_of, faces};
+ghost use Rattle.terms.specs.LentValues.{stock_of, lent_faces};
 ghost use Rattle.terms.specs.Live.{live_count};
+ghost use Rattle.terms.specs.Tree.{shelf_run};
+ghost use Rattle.terms.specs.RefusalNumbers.{code_of};
 ghost use Rattle.terms.specs.Refusals.{
   dimension_refusals,
   size_refusals,
@@ -18,7 +21,6 @@ ghost use Rattle.terms.specs.Refusals.{
   tree_refusals,
   region_count_refusals,
   live_refusals,
-  full_refusals,
   dead_refusals,
   shape_refusals,
   stock_refusals,
@@ -26,271 +28,220 @@ ghost use Rattle.terms.specs.Refusals.{
   face_refusals,
 };
 ghost use Rattle.theory.specs.Tested.{TestedPoints};
-ghost use Rattle.hornherder.specs.First.{First, Found};
-ghost use Rattle.hornherder.specs.Live.{LivePoints};
+ghost use Rattle.hornherder.specs.First.{First};
 
 use crate::live::{count_live, live_within};
-use crate::ranges::{all_at_most, all_marks, all_within, all_within_wide};
+use crate::ranges::all_within;
+use crate::shaped::Shaped;
 use arrange::check::check;
+use terms::lent::{Faces, Stock};
+use terms::refusal::Refusal;
 
 // 1 where k is not 1 to 4.
-pub fn dimension_refusal(k: usize) -> u32
-    ensures { First (dimension_refusals k) result }
+pub fn test_dimension(k: usize) -> Result<(), Refusal>
+    ensures { First (dimension_refusals k) (code_of result) }
 {
-    if k < 1 {
-        return 1;
+    if k < 1 || 4 < k {
+        return Err(Refusal::Dimension);
     }
-    if 4 < k {
-        return 1;
-    }
-    0
+    Ok(())
 }
 
 // 2 where n is over 65,535.
-pub fn size_refusal(n: usize) -> u32
-    ensures { First (size_refusals n) result }
+pub fn test_size(n: usize) -> Result<(), Refusal>
+    ensures { First (size_refusals n) (code_of result) }
 {
     if 65535 < n {
-        return 2;
+        return Err(Refusal::TooManyPoints);
     }
-    0
+    Ok(())
 }
 
 // 3 where the lent coordinates are not so many.
-pub fn length_refusal(size: usize, points: &[i32]) -> u32
-    ensures { First (length_refusals size points.now) result }
+pub fn test_length(size: usize, points: &[i32]) -> Result<(), Refusal>
+    ensures { First (length_refusals size points.now) (code_of result) }
 {
     if points.len() != size {
-        return 3;
+        return Err(Refusal::PointsLength);
     }
-    0
+    Ok(())
 }
 
 // 4 where a lent order or buffer has fewer places than it must.
-pub fn room_refusal(places: usize, room: usize) -> u32
-    ensures { First (room_refusals places room) result }
+pub fn test_room(places: usize, room: usize) -> Result<(), Refusal>
+    ensures { First (room_refusals places room) (code_of result) }
 {
     if room < places {
-        return 4;
+        return Err(Refusal::ShortBuffer);
     }
-    0
+    Ok(())
 }
 
 // 5 where a coordinate of a point that is lent alone is out of range.
-pub fn coordinate_refusal(point: &[i32]) -> u32
-    ensures { First (coordinate_refusals point.now) result }
+pub fn test_coordinates(point: &[i32]) -> Result<(), Refusal>
+    ensures { First (coordinate_refusals point.now) (code_of result) }
 {
     if !all_within(point, -32768, 32767) {
-        return 5;
+        return Err(Refusal::CoordinateRange);
     }
-    0
+    Ok(())
 }
 
 // 5 where a live number's coordinate is out of range.
-pub fn live_coordinate_refusal(k: usize, n: usize, points: &[i32], live: &[u8]) -> u32
-    requires { LivePoints k n points.now live.now }
-    ensures { First (live_coordinate_refusals (stock k n points.now live.now)) result }
+pub fn test_live_coordinates(shaped: &Shaped) -> Result<(), Refusal>
+    ensures { First (live_coordinate_refusals (stock_of shaped.now.stock)) (code_of result) }
 {
-    if !live_within(k, n, points, live) {
-        return 5;
+    if !live_within(shaped) {
+        return Err(Refusal::CoordinateRange);
     }
-    0
+    Ok(())
 }
 
 // 6 where h is over 32.
-fn face_count_refusal(h: usize) -> u32
-    ensures { First (face_count_refusals h) result }
+fn test_face_count(h: usize) -> Result<(), Refusal>
+    ensures { First (face_count_refusals h) (code_of result) }
 {
     if 32 < h {
-        return 6;
+        return Err(Refusal::TooManyFaces);
     }
-    0
+    Ok(())
 }
 
 // 6 where a region has over 32 faces.
-pub fn face_counts_refusal(face_counts: &[u32]) -> u32
-    ensures { First (face_counts_refusals face_counts.now) result }
+pub fn test_face_counts(face_counts: &[u32]) -> Result<(), Refusal>
+    ensures { First (face_counts_refusals face_counts.now) (code_of result) }
 {
-    if !all_at_most(face_counts, 32) {
-        return 6;
+    if !all_within(face_counts, 0, 32) {
+        return Err(Refusal::TooManyFaces);
     }
-    0
+    Ok(())
 }
 
-// 7 where the normals are not k times h, or the offsets not h. Joined faces are at most 64 times 32.
-fn face_length_refusal(k: usize, h: usize, normals: &[i32], offsets: &[i64]) -> u32
-    requires k_bound { k ≤ 4 }
-    requires h_bound { h ≤ 2048 }
-    ensures { First (face_length_refusals k h normals.now offsets.now) result }
+// 7 where the normals are not k times h, or the offsets not h.
+fn test_face_lengths(k: usize, h: usize, normals: &[i32], offsets: &[i64]) -> Result<(), Refusal>
+    ensures { First (face_length_refusals k h normals.now offsets.now) (code_of result) }
 {
-    if normals.len() != k * h {
-        return 7;
+    if k.checked_mul(h) != Some(normals.len()) {
+        return Err(Refusal::FacesLength);
     }
     if offsets.len() != h {
-        return 7;
+        return Err(Refusal::FacesLength);
     }
-    0
+    Ok(())
 }
 
 // 8 where a component or an offset is out of range.
-fn face_range_refusal(normals: &[i32], offsets: &[i64]) -> u32
-    ensures { First (face_range_refusals normals.now offsets.now) result }
+fn test_face_ranges(normals: &[i32], offsets: &[i64]) -> Result<(), Refusal>
+    ensures { First (face_range_refusals normals.now offsets.now) (code_of result) }
 {
     if !all_within(normals, -32767, 32767) {
-        return 8;
+        return Err(Refusal::FaceRange);
     }
-    if !all_within_wide(offsets, -8589934592, 8589934592) {
-        return 8;
+    if !all_within(offsets, -8589934592, 8589934592) {
+        return Err(Refusal::FaceRange);
     }
-    0
+    Ok(())
 }
 
 // 11 where the marks are not h, or one is neither 0 nor 1.
-fn mark_refusal(h: usize, marks: &[u8]) -> u32
-    ensures { First (mark_refusals h marks.now) result }
+fn test_marks(h: usize, marks: &[u8]) -> Result<(), Refusal>
+    ensures { First (mark_refusals h marks.now) (code_of result) }
 {
     if marks.len() != h {
-        return 11;
+        return Err(Refusal::Marks);
     }
-    if !all_marks(marks, 1) {
-        return 11;
+    if !all_within(marks, 0, 1) {
+        return Err(Refusal::Marks);
     }
-    0
+    Ok(())
 }
 
-// 9 where the first v slots are not the tree of the live points.
-pub fn tree_refusal(k: usize, n: usize, v: usize, points: &[i32], live: &[u8], order: &[u32]) -> u32
-    requires tested_points { TestedPoints (stock k n points.now live.now) }
-    requires v_value { v ≡ live_count n live.now }
-    requires v_in_bounds { v ≤ length order.now }
-    ensures { First (tree_refusals (stock k n points.now live.now) (order_of order.now)) result }
+// 9 where the first slots are not the tree of the live points; else those slots.
+pub fn test_tree<'a>(shaped: &Shaped, order: &'a [u32]) -> Result<&'a [u32], Refusal>
+    requires tested_points { TestedPoints (stock_of shaped.now.stock) }
+    requires slots_in_bounds { shaped.now.slots ≤ length order.now }
+    ensures first { First (tree_refusals (stock_of shaped.now.stock) (order_of order.now)) (code_of result) }
+    ensures slots { IfOk result (λ run. run.now ≡ shelf_run (stock_of shaped.now.stock) (order_of order.now)) }
 {
-    if check(k, n, points, live, &order[0..v]) {
-        return 0;
+    let run = &order[..shaped.slots];
+    if !check(&shaped.stock, run) {
+        return Err(Refusal::NotTheTree);
     }
-    9
+    Ok(run)
 }
 
 // 14 where the region count is not 1 to 64, or the face counts are not as many.
-pub fn region_count_refusal(regions: usize, face_counts: &[u32]) -> u32
-    ensures { First (region_count_refusals regions face_counts.now) result }
+pub fn test_region_count(regions: usize, face_counts: &[u32]) -> Result<(), Refusal>
+    ensures { First (region_count_refusals regions face_counts.now) (code_of result) }
 {
-    if regions < 1 {
-        return 14;
-    }
-    if 64 < regions {
-        return 14;
+    if regions < 1 || 64 < regions {
+        return Err(Refusal::RegionCount);
     }
     if face_counts.len() != regions {
-        return 14;
+        return Err(Refusal::RegionCount);
     }
-    0
-}
-
-// What tests with the live bytes among them find: the first refusal or 0, and beside 0 how many slots the shelf has: v, as many as numbers are live.
-#[derive(Drop)]
-pub struct Tested {
-    pub code: u32,
-    pub slots: usize,
+    Ok(())
 }
 
 // 15 where the live bytes are not n, or one is neither 0 nor 1; else how many numbers are live, counted in the same pass.
-pub fn live_refusal(n: usize, live: &[u8]) -> Tested
+pub fn test_live_bytes(n: usize, live: &[u8]) -> Result<usize, Refusal>
     requires { n ≤ 65535 }
-    ensures { Found (live_refusals n live.now) (live_count n live.now) result.code result.slots }
+    ensures first { First (live_refusals n live.now) (code_of result) }
+    ensures many { IfOk result (λ slots. slots ≡ live_count n live.now) }
 {
     if live.len() != n {
-        return Tested { code: 15, slots: 0 };
+        return Err(Refusal::LiveBytes);
     }
-    let bytes = count_live(n, live);
-    if !bytes.all {
-        return Tested { code: 15, slots: 0 };
-    }
-    Tested {
-        code: 0,
-        slots: bytes.live as usize,
-    }
-}
-
-// 16 where none is dead: so many are live as there are numbers.
-pub fn full_refusal(n: usize, v: usize) -> u32
-    ensures { First (full_refusals n v) result }
-{
-    if v == n {
-        return 16;
-    }
-    0
+    count_live(live).ok_or(Refusal::LiveBytes)
 }
 
 // 17 where the number is dead, or not below n.
-pub fn dead_refusal(n: usize, number: u32, live: &[u8]) -> u32
+pub fn test_live(n: usize, number: u32, live: &[u8]) -> Result<(), Refusal>
     requires { length live.now ≡ n }
-    ensures { First (dead_refusals n number live.now) result }
+    ensures { First (dead_refusals n number live.now) (code_of result) }
 {
     let p = number as usize;
-    if n <= p {
-        return 17;
+    if n <= p || live[p] != 1 {
+        return Err(Refusal::NotLive);
     }
-    if live[p] != 1 {
-        return 17;
-    }
-    0
+    Ok(())
 }
 
-// The first of 1, 2, 3 and 15 that holds of the stock, or 0 and how many slots its shelf has.
-pub fn stock_refusal(k: usize, n: usize, points: &[i32], live: &[u8]) -> Tested
-    ensures { Found (stock_refusals (stock k n points.now live.now)) (live_count n live.now) result.code result.slots }
+// The first of 1, 2, 3 and 15 that holds of the stock, or the stock as one of the right shape.
+pub fn test_stock<'a>(stock: &Stock<'a>) -> Result<Shaped<'a>, Refusal>
+    ensures first { First (stock_refusals (stock_of stock.now)) (code_of result) }
+    ensures same { IfOk result (λ shaped. shaped.stock ≡ stock.now) }
 {
-    let shape = shape_refusal(k, n, points);
-    if shape != 0 {
-        return Tested {
-            code: shape,
-            slots: 0,
-        };
-    }
-    live_refusal(n, live)
+    test_shape(stock.k, stock.n, stock.points)?;
+    let slots = test_live_bytes(stock.n, stock.live)?;
+    Ok(Shaped {
+        stock: *stock,
+        slots,
+    })
 }
 
-// The first of 1, 2 and 3 that holds of the points, or 0.
-pub fn shape_refusal(k: usize, n: usize, points: &[i32]) -> u32
-    ensures { First (shape_refusals k n points.now) result }
+// The first of 1, 2 and 3 that holds of the points.
+pub fn test_shape(k: usize, n: usize, points: &[i32]) -> Result<(), Refusal>
+    ensures { First (shape_refusals k n points.now) (code_of result) }
 {
-    let dimension = dimension_refusal(k);
-    if dimension != 0 {
-        return dimension;
-    }
-    let size = size_refusal(n);
-    if size != 0 {
-        return size;
-    }
-    length_refusal(k * n, points)
+    test_dimension(k)?;
+    test_size(n)?;
+    test_length(k * n, points)
 }
 
-// The first of 7, 8 and 11 that holds of the faces' slices, or 0.
-pub fn face_slice_refusal(k: usize, h: usize, normals: &[i32], offsets: &[i64], marks: &[u8]) -> u32
-    requires k_bound { k ≤ 4 }
-    requires h_bound { h ≤ 2048 }
-    ensures { First (face_slice_refusals k (faces h normals.now offsets.now marks.now)) result }
+// The first of 7, 8 and 11 that holds of the faces' slices.
+pub fn test_face_slices(k: usize, faces: &Faces) -> Result<(), Refusal>
+    ensures { First (face_slice_refusals k (lent_faces faces.now)) (code_of result) }
 {
-    let length = face_length_refusal(k, h, normals, offsets);
-    if length != 0 {
-        return length;
-    }
-    let range = face_range_refusal(normals, offsets);
-    if range != 0 {
-        return range;
-    }
-    mark_refusal(h, marks)
+    test_face_lengths(k, faces.h, faces.normals, faces.offsets)?;
+    test_face_ranges(faces.normals, faces.offsets)?;
+    test_marks(faces.h, faces.marks)
 }
 
-// The first of 6, 7, 8 and 11 that holds of the faces, or 0.
-pub fn face_refusal(k: usize, h: usize, normals: &[i32], offsets: &[i64], marks: &[u8]) -> u32
-    requires { k ≤ 4 }
-    ensures { First (face_refusals k (faces h normals.now offsets.now marks.now)) result }
+// The first of 6, 7, 8 and 11 that holds of the faces.
+pub fn test_faces(k: usize, faces: &Faces) -> Result<(), Refusal>
+    ensures { First (face_refusals k (lent_faces faces.now)) (code_of result) }
 {
-    let count = face_count_refusal(h);
-    if count != 0 {
-        return count;
-    }
-    face_slice_refusal(k, h, normals, offsets, marks)
+    test_face_count(faces.h)?;
+    test_face_slices(k, faces)
 }

@@ -1,89 +1,44 @@
 // The screen call.
-ghost use Rattle.std.specs.Prelude.{◌≡◌};
-ghost use Rattle.terms.specs.Lent.{stock, order_of, faces};
-ghost use Rattle.terms.specs.Live.{live_count};
+ghost use Rattle.std.specs.Prelude.{◌≡◌, IfOk};
+ghost use Rattle.terms.specs.Lent.{order_of};
+ghost use Rattle.terms.specs.LentValues.{stock_of, lent_faces};
+ghost use Rattle.terms.specs.Tree.{shelf_run};
+ghost use Rattle.terms.specs.RefusalNumbers.{code_of};
+ghost use Rattle.terms.specs.AnswersForC.{screening_of};
 ghost use Rattle.terms.specs.ScreenCall.{screen_refusals, screen_answer};
-ghost use Rattle.hornherder.specs.First.{Found};
+ghost use Rattle.hornherder.specs.First.{First};
 
-use crate::arranging::arrange_refusal;
-use crate::refuse::{Tested, face_refusal, tree_refusal};
-use descent::root::root_box;
-use screen_walk::screen;
-use terms::Screening;
+use crate::arranging::test_arrange;
+use crate::faces::tested_faces;
+use crate::refuse::{test_faces, test_tree};
+use descent::root::shelf_of;
+use terms::answers::Screened;
+use terms::lent::{Faces, Stock};
+use terms::refusal::Refusal;
 
-// Whether any picture is inside a region: the inside number in the lowest slot, or none, and the visits up to there. A refusal has its number and
-// zeros.
-pub fn hornherder_screen(
-    k: usize,
-    n: usize,
-    h: usize,
-    points: &[i32],
-    live: &[u8],
-    order: &[u32],
-    normals: &[i32],
-    offsets: &[i64],
-    marks: &[u8],
-) -> Screening
-    ensures { result ≡ screen_answer (stock k n points.now live.now) (order_of order.now) (faces h normals.now offsets.now marks.now) }
+// Whether any picture is inside a region: the inside number in the lowest slot, or none, and the visits up to there.
+pub fn screen(stock: &Stock, order: &[u32], faces: &Faces) -> Result<Screened, Refusal>
+    ensures { screening_of result ≡ screen_answer (stock_of stock.now) (order_of order.now) (lent_faces faces.now) }
 {
-    let tested = screen_refusal(k, n, h, points, live, order, normals, offsets, marks);
-    if tested.code != 0 {
-        return Screening {
-            code: tested.code,
-            found: 0,
-            number: 0,
-            visits: 0,
-        };
-    }
-    let v = tested.slots;
-    let rows = root_box(k, n, points, &order[0..v]);
-    let seen = screen(k, points, &order[0..v], normals, offsets, marks, rows);
-    if seen.found {
-        return Screening {
-            code: 0,
-            found: 1,
-            number: seen.number,
-            visits: seen.visits as u32,
-        };
-    }
-    Screening {
-        code: 0,
-        found: 0,
-        number: 0,
+    let run = test_screen(stock, order, faces)?;
+    let shelf = shelf_of(stock.k, stock.n, stock.points, run);
+    let seen = screen_walk::screen(&shelf, &tested_faces(stock.k, faces));
+    Ok(Screened {
+        number: seen.number,
         visits: seen.visits as u32,
-    }
+    })
 }
 
-// The first of 1, 2, 3, 15, 4 to 8, 11 and 9 that holds of the screen call's arguments, or 0 and how many slots the shelf has.
-pub fn screen_refusal(
-    k: usize,
-    n: usize,
-    h: usize,
-    points: &[i32],
-    live: &[u8],
-    order: &[u32],
-    normals: &[i32],
-    offsets: &[i64],
-    marks: &[u8],
-) -> Tested
-    ensures { Found (screen_refusals (stock k n points.now live.now) (order_of order.now)
-        (faces h normals.now offsets.now marks.now)) (live_count n live.now) result.code result.slots }
+// The first of 1, 2, 3, 15, 4 to 8, 11 and 9 that holds of the screen call's arguments, or the slots of the shelf.
+pub(crate) fn test_screen<'a>(
+    stock: &Stock,
+    order: &'a [u32],
+    faces: &Faces,
+) -> Result<&'a [u32], Refusal>
+    ensures first { First (screen_refusals (stock_of stock.now) (order_of order.now) (lent_faces faces.now)) (code_of result) }
+    ensures slots { IfOk result (λ run. run.now ≡ shelf_run (stock_of stock.now) (order_of order.now)) }
 {
-    let arranged = arrange_refusal(k, n, points, live, order);
-    if arranged.code != 0 {
-        return arranged;
-    }
-    let v = arranged.slots;
-    let face = face_refusal(k, h, normals, offsets, marks);
-    if face != 0 {
-        return Tested {
-            code: face,
-            slots: 0,
-        };
-    }
-    let tree = tree_refusal(k, n, v, points, live, order);
-    Tested {
-        code: tree,
-        slots: v,
-    }
+    let shaped = test_arrange(stock, order)?;
+    test_faces(stock.k, faces)?;
+    test_tree(&shaped, order)
 }

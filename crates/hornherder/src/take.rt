@@ -1,76 +1,52 @@
 // The take call.
-ghost use Rattle.std.specs.Prelude.{◌≡◌, length};
+ghost use Rattle.std.specs.Prelude.{◌≡◌, IfOk};
+ghost use Rattle.terms.specs.Live.{lowest_dead};
+ghost use Rattle.terms.specs.RefusalNumbers.{code_of};
+ghost use Rattle.terms.specs.AnswersForC.{taking_of};
 ghost use Rattle.terms.specs.TakeCall.{take_refusals, TakenAs};
 ghost use Rattle.hornherder.specs.First.{First};
 
 use crate::live::lowest_dead;
 use crate::refuse::{
-    coordinate_refusal, full_refusal, length_refusal, live_coordinate_refusal, live_refusal,
-    shape_refusal,
+    test_coordinates, test_length, test_live_bytes, test_live_coordinates, test_shape,
 };
-use terms::Taking;
+use crate::shaped::Shaped;
+use terms::lent::Stock;
+use terms::refusal::Refusal;
 
-// Writes a point at the lowest dead number, sets its live byte, and answers the number. A refusal has its number and 0, and writes nothing.
-pub fn hornherder_take(
+// Writes a point at the lowest dead number, sets its live byte, and answers the number. A refusal writes nothing.
+pub fn take(
     k: usize,
     n: usize,
     points: &mut [i32],
     live: &mut [u8],
     point: &[i32],
-) -> Taking
-    ensures { TakenAs k n points.old live.old point.now result points.new live.new }
+) -> Result<u32, Refusal>
+    ensures { TakenAs k n points.old live.old point.now (taking_of result) points.new live.new }
 {
-    let code = take_refusal(k, n, points, live, point);
-    if code != 0 {
-        return Taking {
-            code: code,
-            number: 0,
-        };
-    }
-    let number = lowest_dead(n, live);
+    let number = test_take(k, n, points, live, point)?;
     let start = number * k;
-    let end = start + k;
-    write_coordinates(point, &mut points[start..end]);
+    points[start..start + k].copy_from_slice(point);
     live[number] = 1;
-    Taking {
-        code: 0,
-        number: number as u32,
-    }
+    Ok(number as u32)
 }
 
-// The point's coordinates in as many places.
-fn write_coordinates(point: &[i32], place: &mut [i32])
-    requires { length place.old ≡ length point.now }
-    ensures { place.new ≡ point.now }
+// The first of 1, 2, 3, 15, 5 and 16 that holds of the take call's arguments, or the lowest dead number. 3 and 5 are asked of the new point too.
+fn test_take(
+    k: usize,
+    n: usize,
+    points: &[i32],
+    live: &[u8],
+    point: &[i32],
+) -> Result<usize, Refusal>
+    ensures first { First (take_refusals k n points.now live.now point.now) (code_of result) }
+    ensures lowest { IfOk result (λ number. number ≡ lowest_dead n live.now) }
 {
-    for d in 0..point.len() {
-        place[d] = point[d];
-    }
-}
-
-// The first of 1, 2, 3, 15, 5 and 16 that holds of the take call's arguments, or 0. 3 and 5 are asked of the new point too.
-fn take_refusal(k: usize, n: usize, points: &[i32], live: &[u8], point: &[i32]) -> u32
-    ensures { First (take_refusals k n points.now live.now point.now) result }
-{
-    let shape = shape_refusal(k, n, points);
-    if shape != 0 {
-        return shape;
-    }
-    let length = length_refusal(k, point);
-    if length != 0 {
-        return length;
-    }
-    let bytes = live_refusal(n, live);
-    if bytes.code != 0 {
-        return bytes.code;
-    }
-    let coordinate = live_coordinate_refusal(k, n, points, live);
-    if coordinate != 0 {
-        return coordinate;
-    }
-    let own = coordinate_refusal(point);
-    if own != 0 {
-        return own;
-    }
-    full_refusal(n, bytes.slots)
+    test_shape(k, n, points)?;
+    test_length(k, point)?;
+    let slots = test_live_bytes(n, live)?;
+    let stock = Stock { k, n, points, live };
+    test_live_coordinates(&Shaped { stock, slots })?;
+    test_coordinates(point)?;
+    lowest_dead(live).ok_or(Refusal::NoneDead)
 }

@@ -2,7 +2,7 @@
 ghost use Rattle.std.specs.Prelude.{◌≡◌};
 
 // The version of the interface: the number of the C header that belongs to it, one more with each change of the interface.
-pub fn hornherder_version() -> u32
+pub fn version() -> u32
     ensures { result ≡ 10 }
 {
     10

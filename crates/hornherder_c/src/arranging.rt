@@ -3,6 +3,7 @@ ghost use Rattle.terms.specs.Lent.{stock, order_of};
 ghost use Rattle.terms.specs.ArrangeCall.{ArrangedAs};
 
 use terms::Arranging;
+use terms::lent::Stock;
 
 // The call of this name, for C.
 #[unsafe(no_mangle)]
@@ -15,5 +16,6 @@ pub extern "C" fn hornherder_arrange(
 ) -> Arranging
     ensures { ArrangedAs (stock k n points.now live.now) (order_of order.old) result (order_of order.new) }
 {
-    hornherder::arranging::hornherder_arrange(k, n, points, live, order)
+    let stock = Stock { k, n, points, live };
+    hornherder::arranging::arrange(&stock, order).into()
 }

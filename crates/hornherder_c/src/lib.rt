@@ -1,5 +1,5 @@
-// The public calls as C programs call them, a file for each. An export hands what it is given to the call of its name in crate hornherder and answers what that
-// answers, under the same clauses. These twelve are all that the archive exports.
+// The public calls as C programs call them, a file for each. An export puts what it is given together as the values that the library's call takes, and
+// answers what that answers, or the number of its refusal. These twelve are all that the archive exports.
 #![tactic(auto)]
 
 mod arranging;

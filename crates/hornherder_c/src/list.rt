@@ -3,6 +3,7 @@ ghost use Rattle.terms.specs.Lent.{stock, order_of, faces};
 ghost use Rattle.terms.specs.ListCall.{ListedAs};
 
 use terms::Listing;
+use terms::lent::{Faces, Stock};
 
 // The call of this name, for C.
 #[unsafe(no_mangle)]
@@ -21,5 +22,12 @@ pub extern "C" fn hornherder_list(
     ensures { ListedAs (stock k n points.now live.now) (order_of order.now) (faces h normals.now offsets.now marks.now)
         list.old result list.new }
 {
-    hornherder::list::hornherder_list(k, n, h, points, live, order, normals, offsets, marks, list)
+    let stock = Stock { k, n, points, live };
+    let faces = Faces {
+        h,
+        normals,
+        offsets,
+        marks,
+    };
+    hornherder::list::list(&stock, order, &faces, list).into()
 }

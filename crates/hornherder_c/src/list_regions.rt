@@ -2,6 +2,9 @@
 ghost use Rattle.terms.specs.Lent.{stock, order_of, regions as lent_regions};
 ghost use Rattle.terms.specs.ListRegionsCall.{RegionsListedAs};
 
+use terms::for_c::code;
+use terms::lent::{Regions, Stock};
+
 // The call of this name, for C.
 #[unsafe(no_mangle)]
 pub extern "C" fn hornherder_list_regions(
@@ -22,18 +25,13 @@ pub extern "C" fn hornherder_list_regions(
         (lent_regions regions face_counts.now normals.now offsets.now marks.now)
         lists.old counts.old result lists.new counts.new }
 {
-    hornherder::list_regions::hornherder_list_regions(
-        k,
-        n,
-        regions,
-        points,
-        live,
-        order,
+    let stock = Stock { k, n, points, live };
+    let regions = Regions {
+        region_count: regions,
         face_counts,
         normals,
         offsets,
         marks,
-        lists,
-        counts,
-    )
+    };
+    code(hornherder::list_regions::list_regions(&stock, order, &regions, lists, counts))
 }

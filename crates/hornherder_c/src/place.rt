@@ -4,6 +4,7 @@ ghost use Rattle.terms.specs.Lent.{faces};
 ghost use Rattle.terms.specs.PlaceCall.{place_answer};
 
 use terms::Placing;
+use terms::lent::Faces;
 
 // The call of this name, for C.
 #[unsafe(no_mangle)]
@@ -17,5 +18,11 @@ pub extern "C" fn hornherder_place(
 ) -> Placing
     ensures { result ≡ place_answer k point.now (faces h normals.now offsets.now marks.now) }
 {
-    hornherder::place::hornherder_place(k, h, point, normals, offsets, marks)
+    let faces = Faces {
+        h,
+        normals,
+        offsets,
+        marks,
+    };
+    hornherder::place::place(k, point, &faces).into()
 }

@@ -2,7 +2,7 @@
 ghost use Rattle.terms.specs.Reading.{colour, grey, nothing};
 ghost use Rattle.terms.specs.PointCall.{MadeAs};
 
-use terms::Making;
+use terms::{Colour, Making, Reading};
 
 // The call of this name, for C.
 #[unsafe(no_mangle)]
@@ -14,7 +14,12 @@ pub extern "C" fn hornherder_point_from_colour(
 ) -> Making
     ensures { MadeAs (colour first second third) place.old result place.new }
 {
-    hornherder::point::hornherder_point_from_colour(first, second, third, place)
+    let colour = Colour {
+        first,
+        second,
+        third,
+    };
+    hornherder::point::point_from(Reading::Colour(colour), place).into()
 }
 
 // The call of this name, for C.
@@ -22,7 +27,7 @@ pub extern "C" fn hornherder_point_from_colour(
 pub extern "C" fn hornherder_point_from_grey(value: f32, place: &mut [i32]) -> Making
     ensures { MadeAs (grey value) place.old result place.new }
 {
-    hornherder::point::hornherder_point_from_grey(value, place)
+    hornherder::point::point_from(Reading::Grey(value), place).into()
 }
 
 // The call of this name, for C.
@@ -30,5 +35,5 @@ pub extern "C" fn hornherder_point_from_grey(value: f32, place: &mut [i32]) -> M
 pub extern "C" fn hornherder_point_from_nothing(place: &mut [i32]) -> Making
     ensures { MadeAs nothing place.old result place.new }
 {
-    hornherder::point::hornherder_point_from_nothing(place)
+    hornherder::point::point_from(Reading::Nothing, place).into()
 }

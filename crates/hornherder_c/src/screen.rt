@@ -4,6 +4,7 @@ ghost use Rattle.terms.specs.Lent.{stock, order_of, faces};
 ghost use Rattle.terms.specs.ScreenCall.{screen_answer};
 
 use terms::Screening;
+use terms::lent::{Faces, Stock};
 
 // The call of this name, for C.
 #[unsafe(no_mangle)]
@@ -20,5 +21,12 @@ pub extern "C" fn hornherder_screen(
 ) -> Screening
     ensures { result ≡ screen_answer (stock k n points.now live.now) (order_of order.now) (faces h normals.now offsets.now marks.now) }
 {
-    hornherder::screen::hornherder_screen(k, n, h, points, live, order, normals, offsets, marks)
+    let stock = Stock { k, n, points, live };
+    let faces = Faces {
+        h,
+        normals,
+        offsets,
+        marks,
+    };
+    hornherder::screen::screen(&stock, order, &faces).into()
 }

@@ -14,5 +14,5 @@ pub extern "C" fn hornherder_take(
 ) -> Taking
     ensures { TakenAs k n points.old live.old point.now result points.new live.new }
 {
-    hornherder::take::hornherder_take(k, n, points, live, point)
+    hornherder::take::take(k, n, points, live, point).into()
 }

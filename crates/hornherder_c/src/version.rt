@@ -6,5 +6,5 @@ ghost use Rattle.std.specs.Prelude.{◌≡◌};
 pub extern "C" fn hornherder_version() -> u32
     ensures { result ≡ 10 }
 {
-    hornherder::version::hornherder_version()
+    hornherder::version::version()
 }

@@ -8,11 +8,7 @@ pub fn copy_inside(run: &[u32], list: &mut [u32], inside: usize)
     requires { inside + length run.now ≤ length list.old }
     ensures { list.new ≡ paste list.old inside run.now (length run.now) }
 {
-    let mut front: usize = 0;
-    while front < run.len() {
-        list[inside + front] = run[front];
-        front += 1;
-    }
+    list[inside..inside + run.len()].copy_from_slice(run);
 }
 
 // Writes a run that is outside to the list, backwards before those of the slots done so far that are not inside.
@@ -22,9 +18,7 @@ pub fn copy_outside(run: &[u32], list: &mut [u32], done: usize, inside: usize)
     ensures { list.new ≡ paste_back list.old (length list.old - (done - inside)) run.now (length run.now) }
 {
     let end = list.len() - (done - inside);
-    let mut back: usize = 0;
-    while back < run.len() {
-        list[end - 1 - back] = run[back];
-        back += 1;
-    }
+    let places = &mut list[end - run.len()..end];
+    places.copy_from_slice(run);
+    places.reverse();
 }

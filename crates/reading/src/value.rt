@@ -2,12 +2,25 @@
 ghost use Rattle.std.specs.Prelude.{◌≡◌, true, ◌≤◌};
 ghost use Rattle.terms.specs.Value.{in_range, coordinate_of};
 ghost use Rattle.reading.specs.Bits.{exponent_of, floor_of_bits};
+ghost use Rattle.reading.specs.Converted.{coordinate_given};
+
+use terms::refusal::Refusal;
 
 // Whether a value is finite, and from -128 up to but not including 128.
 pub fn in_range(value: f32) -> bool
     ensures { result ≡ in_range value }
 {
     (value >= -128.0) & (value < 128.0)
+}
+
+// The coordinate that a value becomes, or the refusal of one that is not in range.
+pub fn tested_coordinate(value: f32) -> Result<i32, Refusal>
+    ensures { result ≡ coordinate_given value }
+{
+    if in_range(value) {
+        return Ok(coordinate_of(value));
+    }
+    Err(Refusal::ValueRange)
 }
 
 // The greatest whole number not above 256 times a value.

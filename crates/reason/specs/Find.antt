@@ -1,5 +1,5 @@
 -- What the way down to a number asks at each branch, and that what it finds there is the computed reason.
-use Rattle.std.specs.Prelude.{◌≡◌, refl, Bool, true, false, ◌≢◌, List, ℕ, zero, suc, ◌+◌, ◌-◌, ◌/◌, ◌^◌, ◌≤◌, ◌<◌, ℤ}
+use Rattle.std.specs.Prelude.{◌≡◌, refl, Bool, true, false, ◌≢◌, List, ℕ, zero, suc, ◌+◌, ◌-◌, ◌/◌, ◌^◌, ◌≤◌, ◌<◌, length, take, ℤ}
 use Rattle.std.proofs.Common.{sym, ◌∙◌, mod-eq_of_lt, arith, eq-eqb, ne_eqb}
 use Rattle.terms.specs.declared.Reason.{Reason}
 use Rattle.terms.specs.declared.Reason.TheVariants.{InsideWithBranch, OutsideWithBranch}
@@ -20,8 +20,12 @@ use Rattle.theory.specs.LowestThatPasses.{lowest_is, none_lowest}
 use Rattle.theory.specs.ReasonOnTheWay.{branch_below, branch_above, branch_open}
 use Rattle.theory.specs.ReasonSteps.{open_reason, reason_step, reason_depth, own_same_point, stands_left, stands_right}
 use Rattle.region.specs.Table.{tabled}
+use Rattle.region.specs.Told.{faces_at}
+use Rattle.region.specs.Live.{lives_front}
+use Rattle.region.specs.declared.table.Table.{Table}
 use Rattle.region.specs.Judged.{LowestBelow, AboveAll, StillOpen, judged_open, above_not_below}
 use Rattle.descent.specs.declared.runs.Run.{Run}
+use Rattle.descent.specs.declared.shelf.Shelf.{Shelf}
 use Rattle.descent.specs.Points.{HasPoint, PointAt}
 use Rattle.descent.specs.Slots.{run_of, own_of, run_length, run_node, run_lefts, run_rights}
 use Rattle.descent.specs.Standing.{Standing, own_point, standing_left, standing_right}
@@ -195,6 +199,18 @@ module _ {k : ℕ} {points : List ℤ} {order : List ℕ} {f : Faces} {p : ℕ} 
             go true e = found_left e (v.left e) z
             go false e = found_right e (v.right e) z
 
+-- The live faces may be lent alone.
+pub sought_front : {k : ℕ} {points : List ℤ} {order : List ℕ} {f : Faces} {p : ℕ} {x : List ℤ} {a c s : ℕ} {b : Box} {live : List ℕ} {count : ℕ}
+    → Sought k points order f p x a c s b live count → Sought k points order f p x a c s b (take count live) (length (take count live))
+sought_front w = record {
+  standing = w.standing;
+  boxed = w.boxed;
+  faced = record { faces = w.faced.faces; lives = lives_front w.faced.lives };
+  stands = w.stands;
+  known = w.known;
+  point = w.point;
+}
+
 -- What is asked for the branch on the side of number p of a run whose node is q.
 pub record SideAsks (k : ℕ) (points : List ℤ) (p : ℕ) (run : Run) (q : ℕ) : Type 0 where
   pub sought : HasPoint k points p
@@ -203,9 +219,11 @@ pub record SideAsks (k : ℕ) (points : List ℤ) (p : ℕ) (run : Run) (q : ℕ
   pub some : 0 < run.length
   pub fits : run.start + run.length < 2 ^ 64
 
--- What the way down asks of a branch and what it finds, read off the values that it takes.
-abbrev pub Asks : ℕ → List ℤ → List ℕ → Faces → ℕ → List ℤ → Run → List ℕ → ℕ → Type 0
-Asks k points order f p x run live count = Sought k points order f p x run.start run.length run.axis (box_of run.rows) live count
+-- What the way down asks of a branch, read off the values that it takes: the shelf and the table of the faces have the same dimensions, and the number can be sought.
+pub record Asks (s : Shelf) (t : Table) (p : ℕ) (x : List ℤ) (run : Run) (live : List ℕ) : Type 0 where
+  pub same_k : t.k ≡ s.k
+  pub sought : Sought s.k s.points.now s.order.now (faces_at t) p x run.start run.length run.axis (box_of run.rows) live (length live)
 
-abbrev pub Finds : ℕ → List ℤ → List ℕ → Faces → ℕ → Run → Reason → Type 0
-Finds k points order f p run r = Found k points order f p run.start run.length run.axis (box_of run.rows) r
+-- What it finds, read off the same.
+abbrev pub Finds : Shelf → Table → ℕ → Run → Reason → Type 0
+Finds s t p run r = Found s.k s.points.now s.order.now (faces_at t) p run.start run.length run.axis (box_of run.rows) r

@@ -1,5 +1,5 @@
 -- The reason of a number of a whole shelf: the root can be searched, and what is found there is the reason of the shelf.
-use Rattle.std.specs.Prelude.{◌≡◌, refl, List, ℕ, ◌<◌, ℤ}
+use Rattle.std.specs.Prelude.{◌≡◌, List, ℕ, ◌<◌, ℤ}
 use Rattle.std.proofs.Common.{◌∙◌, arith}
 use Rattle.std.proofs.Math.ListN.{length}
 use Rattle.std.proofs.Math.Seq.{take-length}
@@ -12,9 +12,8 @@ use Rattle.terms.specs.Reason.{InRun}
 use Rattle.terms.specs.Explain.{reason_of}
 use Rattle.theory.specs.ReasonSteps.{reason_alike}
 use Rattle.region.specs.Table.{Tabled}
-use Rattle.region.specs.Ranges.{KnownTable}
-use Rattle.region.specs.Live.{AllLive}
 use Rattle.descent.specs.Points.{HasPoint, PointAt}
+use Rattle.descent.specs.Faced.{Faced}
 use Rattle.descent.specs.Root.{Rooted, boxed_root}
 use Rattle.reason.specs.Tabled.{reason_tabled}
 use Rattle.reason.specs.Find.{Sought, Found}
@@ -24,12 +23,12 @@ module _ {k : ℕ} {points : List ℤ} {order : List ℕ} {b : Box} (r : Rooted 
   pub number_known : HasPoint k points p
   number_known = let s = stands.1 in rw s.number at (r.standing.known.each stands.0 s.known)
 
-  pub sought_root : {f : Faces} {x : List ℤ} {live : List ℕ} → KnownTable k f → PointAt k points p x → AllLive f.h live f.h
-      → Sought k points order f p x 0 (length order) 0 b live f.h
-  sought_root faces point all = record {
+  pub sought_root : {f : Faces} {x : List ℤ} {live : List ℕ} {count : ℕ} → Faced k f b live count → PointAt k points p x
+      → Sought k points order f p x 0 (length order) 0 b live count
+  sought_root faced point = record {
     standing = r.standing;
     boxed = boxed_root r;
-    faced = record { faces = faces; lives = all.lives _ _ refl };
+    faced = faced;
     stands = rw (take-length order) stands;
     known = number_known;
     point = point;

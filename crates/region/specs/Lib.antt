@@ -3,6 +3,8 @@ pub mod Above
 pub mod Corners
 pub mod Table
 pub mod Ranges
+pub mod Told
 pub mod Live
 pub mod Judged
+pub mod Lowest
 pub mod Measured

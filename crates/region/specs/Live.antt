@@ -3,6 +3,7 @@
 use Rattle.std.specs.Prelude.{◌≡◌, refl, Bool, true, false, not, ◌⊎◌, List, ℕ, ◌≤◌, ◌<◌, length, get_or, take, ℤ}
 use Rattle.std.proofs.Math.Path.{sym}
 use Rattle.std.proofs.Common.{ap, ◌∙◌, inl, inr, arith, get_or-take, length-take-le}
+use Rattle.std.proofs.Math.Seq.{take-length}
 use Rattle.std.proofs.Math.Logic.{⊎_elim}
 use Rattle.terms.specs.Tests.{keep}
 use Rattle.terms.specs.Box.{Box}
@@ -14,9 +15,9 @@ use Rattle.theory.specs.Boxes.{In, Nested}
 use Rattle.theory.specs.Nesting.{above_nested}
 use Rattle.theory.specs.Containment.{wholly_above_point}
 
--- The first count of the 32 entries are numbers of faces, in rising order.
+-- The first count entries, at most 32, are numbers of faces, in rising order.
 pub record LiveFaces (h : ℕ) (face : List ℕ) (count : ℕ) : Type 0 where
-  pub long : length face ≡ 32
+  pub long : count ≤ length face
   pub few : count ≤ 32
   pub each : (t : ℕ) → t < count → get_or face t 0 < h
   pub rising : Ascending (take count face)
@@ -43,6 +44,21 @@ pub lives_nested : {g : Region} {inner outer : Box} {face : List ℕ} {count : �
     → Lives g inner face count
 lives_nested {g} w v = record { live = v.live; rest = λ i l. ⊎_elim (λ a. inl (above_nested g i w a)) inr (v.rest i l) }
 
+-- The live faces lent alone: the first count entries as a list of their own.
+pub lives_front : {g : Region} {b : Box} {face : List ℕ} {count : ℕ} → Lives g b face count → Lives g b (take count face) (length (take count face))
+lives_front {face = face} {count} v =
+    let live = v.live in
+    let same : length (take count face) ≡ count = length-take-le count face live.long in
+    record {
+      live = record {
+        long = omega arith;
+        few = omega arith;
+        each = λ t l. rw (get_or-take count face t 0 (omega arith)) (live.each t (omega arith));
+        rising = rw (take-length (take count face)) live.rising;
+      };
+      rest = λ i l. ⊎_elim inl (λ a. inr (a.0, omega (arith, a.1), get_or-take count face a.0 0 a.1 ∙ a.2)) (v.rest i l);
+    }
+
 -- With none live, the box is wholly above all.
 pub lives_none : {g : Region} {b : Box} {face : List ℕ} {count : ℕ} → Lives g b face count → count ≡ 0
     → (i : ℕ) → i < g.h → wholly_above g b i ≡ true
@@ -52,7 +68,7 @@ lives_none v e i l = ⊎_elim (λ a. a) (λ w. absurd (omega arith)) (v.rest i l
 pub all_live : (h : ℕ) (face : List ℕ) → length face ≡ 32 → h ≤ 32 → ((t : ℕ) → t < h → get_or face t 0 ≡ t) → AllLive h face h
 all_live h face long few all = record {
   lives = λ g b e. record {
-    live = record { long = long; few = few; each = λ t l. omega (arith, all t l); rising = rising };
+    live = record { long = omega arith; few = few; each = λ t l. omega (arith, all t l); rising = rising };
     rest = λ i l. let m : i < h = omega arith in inr (i, m, all i m);
   };
 }
@@ -130,6 +146,6 @@ module _ {g : Region} {b : Box} {face : List ℕ} {count : ℕ} {next : List ℕ
 
     pub lives_kept : Lives g b next left
     lives_kept = record {
-      live = record { long = w.long; few = w.few; each = each_left; rising = rw w.same (keep_ascending _ (take count face) v.live.rising) };
+      live = record { long = let long = w.long in let few = w.few in omega arith; few = w.few; each = each_left; rising = rw w.same (keep_ascending _ (take count face) v.live.rising) };
       rest = λ i l. ⊎_elim inl (above_or_left i) (v.rest i l);
     }

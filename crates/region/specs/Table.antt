@@ -1,7 +1,9 @@
 -- The faces as a table: a row of four to a face, its k components and 0 from k on. It tells of the region of the faces.
-use Rattle.std.specs.Prelude.{◌≡◌, refl, List, ℕ, ◌+◌, ◌*◌, ◌≤◌, ◌<◌, length, get_or, set, ℤ, pos, ◌*ℤ◌, ◌-ℤ◌}
+use Rattle.std.specs.Prelude.{◌≡◌, refl, List, ◌++◌, ℕ, ◌+◌, ◌-◌, ◌*◌, ◌≤◌, ◌<◌, length, get_or, take, ℤ, pos, ◌*ℤ◌, ◌-ℤ◌}
 use Rattle.std.proofs.Math.Path.{ap, fun_ext}
-use Rattle.std.proofs.Common.{◌∙◌, arith, length-set}
+use Rattle.std.proofs.Common.{arith, length-take-le, get_or-take}
+use Rattle.std.proofs.lemmas.List.{get_or_append_left, get_or-append_right}
+use Rattle.std.proofs.Math.Decide.{dec_lt}
 use Rattle.std.proofs.Math.Bool.{not}
 use Rattle.whole.specs.IndexedSum.{sum_to}
 use Rattle.whole.proofs.IndexedSum.{sum_same}
@@ -11,7 +13,6 @@ use Rattle.terms.specs.Box.{Box}
 use Rattle.terms.specs.Region.{Region, region, above_at, above, is_below, inside, wholly_above, wholly_below, is_settled, is_open}
 use Rattle.terms.specs.Margin.{margin}
 use Rattle.theory.specs.AllAndAny.{all_same, any_same}
-use Rattle.theory.specs.Stores.{store_next}
 use Rattle.theory.specs.PointsAlike.{SamePoint}
 use Rattle.region.specs.Corners.{corner}
 
@@ -55,7 +56,7 @@ pub record TabledTo (k : ℕ) (normals : List ℤ) (e : ℕ) (table : List ℤ) 
 pub tabled_none : (k : ℕ) (normals table : List ℤ) → length table ≡ 128 → TabledTo k normals 0 table
 tabled_none k normals table long = record { long = long; places = λ o l. absurd (omega arith) }
 
--- The row of face i, stored place by place: what each place is to hold, one place more, and all four.
+-- The row of face i: what each of its places is to hold.
 module _ {k : ℕ} (normals : List ℤ) (i : ℕ) (known : i < 32) (row : List ℤ) (r : Row k (normal_of k normals i) (lone row)) where
   row_holds : (d e : ℕ) → d < 4 → e ≡ i * 4 + d → PlaceHolds k normals e (lone row d)
   row_holds d e l q = record {
@@ -66,22 +67,21 @@ module _ {k : ℕ} (normals : List ℤ) (i : ℕ) (known : i < 32) (row : List �
     rest = λ j c m p n. r.rest d (omega arith) l;
   }
 
-  place_next : (d e next : ℕ) → d < 4 → e ≡ i * 4 + d → next ≡ e + 1 → {table : List ℤ} → TabledTo k normals e table
-      → TabledTo k normals next (set table e (lone row d))
-  place_next d e next l q p {table} t = record {
-    long = length-set table e (lone row d) ∙ t.long;
-    places = λ o m.
-        store_next (PlaceHolds k normals) (pos 0) table e (lone row d) (omega (arith, t.long)) t.places (row_holds d e l q) o (omega arith);
-  }
+  -- It is copied in whole, over what stood there.
+  pub row_next : length row ≡ 4 → (table rest : List ℤ) → TabledTo k normals (i * 4) table → length (take (i * 4) table ++ (row ++ rest)) ≡ 128
+      → TabledTo k normals ((i + 1) * 4) (take (i * 4) table ++ (row ++ rest))
+  row_next four table rest t long = record { long = long; places = λ o l. place o l (dec_lt o (i * 4)) }
+    where
+      front : length (take (i * 4) table) ≡ i * 4
+      front = length-take-le (i * 4) table (omega (arith, t.long))
 
-  pub row_next : {table : List ℤ} → TabledTo k normals (i * 4) table
-      → TabledTo k normals ((i + 1) * 4)
-      (set (set (set (set table (i * 4) (lone row 0)) (i * 4 + 1) (lone row 1)) (i * 4 + 2) (lone row 2)) (i * 4 + 3) (lone row 3))
-  row_next t =
-      let first = place_next 0 (i * 4) (i * 4 + 1) (omega arith) (omega arith) (omega arith) t in
-      let second = place_next 1 (i * 4 + 1) (i * 4 + 2) (omega arith) (omega arith) (omega arith) first in
-      let third = place_next 2 (i * 4 + 2) (i * 4 + 3) (omega arith) (omega arith) (omega arith) second in
-      place_next 3 (i * 4 + 3) ((i + 1) * 4) (omega arith) (omega arith) (omega arith) third
+      place : (o : ℕ) → o < (i + 1) * 4 → Dec (o < i * 4) → PlaceHolds k normals o (get_or (take (i * 4) table ++ (row ++ rest)) o (pos 0))
+      place o l (yes m) =
+          rw (get_or_append_left (take (i * 4) table) (row ++ rest) (pos 0) o (omega (arith, front)), get_or-take (i * 4) table o (pos 0) m) (t.places o m)
+      place o l (no n) =
+          rw
+          (get_or-append_right (take (i * 4) table) (row ++ rest) (i * 4) o (pos 0) front (omega arith), get_or_append_left row rest (pos 0) (o - i * 4) (omega arith))
+          (row_holds (o - i * 4) o (omega arith) (omega arith))
 
 -- All rows are stored.
 pub tabled_all : {k : ℕ} {normals : List ℤ} {h e : ℕ} {table : List ℤ} → k ≤ 4 → TabledTo k normals e table → h * 4 ≤ e → Tabled k normals h table

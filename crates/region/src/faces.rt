@@ -1,61 +1,58 @@
-// The normals of the faces as rows of four, the sum of products, and the margin of a point to a face.
-ghost use Rattle.std.specs.Prelude.{◌≡◌, List, ℕ, ◌*◌, ◌≤◌, ◌<◌, eqb, length, get_or, nat_abs, pos, ◌-ℤ◌};
+// The rows of the faces, the sum of products, and the margin of a point to a face.
+ghost use Rattle.std.specs.Prelude.{◌≡◌, ℕ, ◌≤◌, ◌<◌, eqb, length, get_or, nat_abs, pos, ◌-ℤ◌};
 ghost use Rattle.whole.specs.IndexedSum.{sum_to};
-ghost use Rattle.terms.specs.Lent.{faces_of};
 ghost use Rattle.terms.specs.Points.{lone};
 ghost use Rattle.terms.specs.Region.{Region};
 ghost use Rattle.terms.specs.Margin as words;
 ghost use Rattle.theory.specs.Tested.{Coordinates};
 ghost use Rattle.theory.specs.PointsAlike.{SamePoint};
 ghost use Rattle.theory.specs.Margins.{above_by};
-ghost use Rattle.region.specs.Table.{normal_of, products, Row, Tabled, tabled};
-ghost use Rattle.region.specs.Ranges.{Normal, HasNormal, HasOffset, HasMark, HasMargin};
+ghost use Rattle.region.specs.Table.{normal_of, products, Row};
+ghost use Rattle.region.specs.Ranges.{Normal, HasNormal, HasOffset, HasMark};
+ghost use Rattle.region.specs.Told.{told, TableOf};
 
-// The normal of face i in a row of its own: its k components, and 0 from k on.
-pub fn normal_at(k: usize, normals: &[i32], i: usize) -> [i32; 4]
-    requires { HasNormal k normals.now i }
-    ensures { Row k (normal_of k normals.now i) (lone result) }
+use crate::lent::LentFaces;
+use crate::table::Table;
+
+// Row i of numbers that lie k to a row, in four places of its own: its k numbers, and 0 from k on. An index, since the loop has four turns for every k,
+// which the compiler writes out: with `copy_from_slice` of the k numbers the root box over the slots takes 1.8 times as long.
+pub fn row_of(k: usize, numbers: &[i32], i: usize) -> [i32; 4]
+    requires { HasNormal k numbers.now i }
+    ensures { Row k (normal_of k numbers.now i) (lone result) }
 {
     let start = i * k;
-    let mut row: [i32; 4] = [0; 4];
+    let mut row = [0; 4];
     for d in 0..4 {
         if d < k {
-            row[d] = normals[start + d];
+            row[d] = numbers[start + d];
         }
     }
     row
 }
 
-// The rows of h faces as a table, made once for a call that tests many points and boxes.
-pub fn table_of(k: usize, normals: &[i32], h: usize) -> [i32; 128]
-    requires k_bound { k ≤ 4 }
-    requires h_bound { h ≤ 32 }
-    requires normals_len { length normals.now ≡ k * h }
-    ensures { Tabled k normals.now h result }
+// The faces with their normals as a table, made once for a call that tests many points and boxes.
+pub fn table_of<'a>(faces: &LentFaces<'a>) -> Table<'a>
+    ensures { TableOf faces.now result }
 {
-    let mut table = [0i32; 128];
-    for i in 0..h {
-        let row = normal_at(k, normals, i);
-        let start = i * 4;
-        table[start] = row[0];
-        table[start + 1] = row[1];
-        table[start + 2] = row[2];
-        table[start + 3] = row[3];
+    let mut rows = [0; 128];
+    for i in 0..faces.offsets.len() {
+        let row = row_of(faces.k, faces.normals, i);
+        rows[i * 4..i * 4 + 4].copy_from_slice(&row);
     }
-    table
+    Table {
+        k: faces.k,
+        rows,
+        offsets: faces.offsets,
+        marks: faces.marks,
+    }
 }
 
 // The row of face i, read from the table.
-pub fn row_at(table: &[i32; 128], i: usize) -> [i32; 4]
+pub fn row_at(table: &Table, i: usize) -> [i32; 4]
     requires { i < 32 }
-    ensures { SamePoint 4 (lone result) (normal_of 4 table.now i) }
+    ensures { SamePoint 4 (lone result) (normal_of 4 table.now.rows i) }
 {
-    let start = i * 4;
-    let mut row: [i32; 4] = [0; 4];
-    for d in 0..4 {
-        row[d] = table[start + d];
-    }
-    row
+    row_of(4, &table.rows, i)
 }
 
 // The sum of the products of a point's coordinates and a row's components. Those from k on are 0, so nothing is asked of k and it is the sum of the
@@ -92,10 +89,10 @@ pub fn above(margin: i64, marks: &[u8], i: usize) -> bool
 }
 
 // The margin of a point to face i of the table: by how much it is above the face, or below it.
-pub fn point_margin(k: usize, x: [i32; 4], table: &[i32; 128], offsets: &[i64], i: usize) -> i64
-    requires coordinates { Coordinates k (lone x) }
-    requires has_margin { HasMargin k table.now offsets.now i }
-    ensures { (marks : List ℕ) → result ≡ words.margin (tabled k (faces_of table.now offsets.now marks)) i (lone x) }
+pub fn point_margin(table: &Table, x: [i32; 4], i: usize) -> i64
+    requires coordinates { Coordinates table.now.k (lone x) }
+    requires known { i < length table.now.offsets.now }
+    ensures { result ≡ words.margin (told table.now) i (lone x) }
 {
-    margin(sum(k, x, row_at(table, i)), offsets, i)
+    margin(sum(table.k, x, row_at(table, i)), table.offsets, i)
 }

@@ -1,45 +1,30 @@
-// The live faces: those not yet known to be wholly above the present box, as the first `count` of 32 entries, in rising order. They are lent
-// from a branch to its children, so that none is copied.
-ghost use Rattle.std.specs.Prelude.{◌≤◌, length};
-ghost use Rattle.terms.specs.Lent.{faces_of};
+// The live faces: those not yet known to be wholly above the present box, in rising order. They are lent from a branch to its children, so that none
+// is copied.
+ghost use Rattle.std.specs.Prelude.{ℕ, ◌≤◌, length};
 ghost use Rattle.terms.specs.Points.{lone};
 ghost use Rattle.theory.specs.Tested.{Coordinates};
-ghost use Rattle.region.specs.Table.{tabled};
-ghost use Rattle.region.specs.Ranges.{KnownTable};
+ghost use Rattle.region.specs.Told.{told};
 ghost use Rattle.region.specs.Live.{LiveFaces, AllLive, InsideByLive};
 
 use crate::faces::{above, point_margin};
+use crate::table::Table;
 
-// All faces, which are live before any box is asked: the first h entries.
-pub fn all_faces(h: usize) -> [u8; 32]
-    requires { h ≤ 32 }
-    ensures { AllLive h result h }
+// All faces, which are live before any box is asked: the first h entries for h faces.
+pub fn all_faces() -> [u8; 32]
+    ensures { (h : ℕ) → h ≤ 32 → AllLive h result h }
 {
-    let mut live = [0u8; 32];
-    for t in 0..h {
-        live[t] = t as u8;
-    }
-    live
+    std::array::from_fn(|i| i as u8)
 }
 
 // Whether a point, which lies in a box for which these faces are live, is inside the region.
-pub fn inside_live(
-    k: usize,
-    x: [i32; 4],
-    table: &[i32; 128],
-    offsets: &[i64],
-    marks: &[u8],
-    live: &[u8; 32],
-    count: usize,
-) -> bool
-    requires coordinates { Coordinates k (lone x) }
-    requires known_table { KnownTable k (faces_of table.now offsets.now marks.now) }
-    requires live_faces { LiveFaces (length offsets.now) live.now count }
-    ensures { InsideByLive (tabled k (faces_of table.now offsets.now marks.now)) live.now count (lone x) result }
+pub fn inside_live(table: &Table, x: [i32; 4], live: &[u8]) -> bool
+    requires coordinates { Coordinates table.now.k (lone x) }
+    requires live_faces { LiveFaces (length table.now.offsets.now) live.now (length live.now) }
+    ensures { InsideByLive (told table.now) live.now (length live.now) (lone x) result }
 {
-    for t in 0..count {
-        let i = live[t] as usize;
-        if !above(point_margin(k, x, table, offsets, i), marks, i) {
+    for &f in live {
+        let i = f as usize;
+        if !above(point_margin(table, x, i), table.marks, i) {
             return false;
         }
     }

@@ -1,3 +1,4 @@
+pub mod Joined
 pub mod Buffers
 pub mod RegionListed
 pub mod RegionsListed

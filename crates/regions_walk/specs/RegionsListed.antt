@@ -1,6 +1,6 @@
 -- Several regions of a shelf: room for each in both buffers, what stands there once the first of them are listed, and one region more.
 use Rattle.std.specs.Prelude.{◌≡◌, refl, List, ◌++◌, ℕ, ◌+◌, ◌*◌, ◌≤◌, ◌<◌, length, take, drop, ℤ}
-use Rattle.std.proofs.Common.{subst, add-mul, mul-le-mul_right, suc-mul, arith}
+use Rattle.std.proofs.Common.{subst, mul-le-mul_right, suc-mul, arith}
 use Rattle.whole.specs.IndexedTotal.{total_to}
 use Rattle.whole.proofs.IndexedTotal.{total_next}
 use Rattle.terms.specs.Lent.{Faces, Regions, faces_of}
@@ -23,30 +23,27 @@ pub record RegionsListed (k : ℕ) (g : Regions) (at : ℕ → ℕ → ℤ) (run
   pub listed : FilledTo (region_places k g at run) (length run) r lists after_lists
   pub counted : FilledTo (region_counts k g at run) 3 r counts after_counts
 
--- Those before region r are listed, and its faces and its places start here.
-pub record Reached (k : ℕ) (g : Regions) (at : ℕ → ℕ → ℤ) (run lists counts : List ℕ) (r face place : ℕ) (after_lists after_counts : List ℕ) : Type 0 where
+-- Those before region r are listed, and its faces start here.
+pub record Reached (k : ℕ) (g : Regions) (at : ℕ → ℕ → ℤ) (run lists counts : List ℕ) (r face : ℕ) (after_lists after_counts : List ℕ) : Type 0 where
   pub few : r ≤ g.region_count
   pub faces : face ≡ faces_before g.face_counts r
-  pub places : place ≡ r * length run
   pub done : RegionsListed k g at run lists counts r after_lists after_counts
 
 -- Room for region r: its part of each of the joined slices, and of both buffers.
-pub record Rooms (k : ℕ) (g : Regions) (run lists counts : List ℕ) (r face place : ℕ) : Type 0 where
+pub record Rooms (k : ℕ) (g : Regions) (run lists counts : List ℕ) (r face : ℕ) : Type 0 where
   pub components_room : k * face + k * faces_in g.face_counts r ≤ length g.normals
   pub offsets_room : face + faces_in g.face_counts r ≤ length g.offsets
   pub marks_room : face + faces_in g.face_counts r ≤ length g.marks
-  pub places_room : place + length run ≤ length lists
+  pub places_room : r * length run + length run ≤ length lists
   pub three_room : r * 3 + 3 ≤ length counts
 
 -- Before the first region.
-pub reached_first : (k : ℕ) (g : Regions) (at : ℕ → ℕ → ℤ) (run lists counts : List ℕ) {r face place : ℕ} → r ≡ 0 → face ≡ 0 → place ≡ 0
-    → Reached k g at run lists counts r face place lists counts
+pub reached_first : (k : ℕ) (g : Regions) (at : ℕ → ℕ → ℤ) (run lists counts : List ℕ) → Reached k g at run lists counts 0 0 lists counts
 unfolding total_to
-reached_first k g at run lists counts e f p = record {
+reached_first k g at run lists counts = record {
   few = omega arith;
-  faces = rw e f;
-  places = rw e (omega arith);
-  done = record { listed = rw e (filled_none _ (length run) lists); counted = rw e (filled_none _ 3 counts) };
+  faces = refl;
+  done = record { listed = filled_none _ (length run) lists; counted = filled_none _ 3 counts };
 }
 
 -- A region's faces as they are lent out of the joined slices.
@@ -58,8 +55,8 @@ lent_faces k g {r} components many w starts c m = rw (starts, c, m, part_length 
 pub lent_length : {A : Type 0} (xs : List A) (a c size : ℕ) → size ≡ c → a + c ≤ length xs → length (take size (drop a xs)) ≡ c
 lent_length xs a c size e l = rw e (part_length a c xs l)
 
-module _ {k : ℕ} {g : Regions} {at : ℕ → ℕ → ℤ} {run lists counts : List ℕ} {r face place : ℕ} {after_lists after_counts : List ℕ}
-    (w : Reached k g at run lists counts r face place after_lists after_counts) (room : RoomForRegions g.region_count run lists counts) where
+module _ {k : ℕ} {g : Regions} {at : ℕ → ℕ → ℤ} {run lists counts : List ℕ} {r face : ℕ} {after_lists after_counts : List ℕ}
+    (w : Reached k g at run lists counts r face after_lists after_counts) (room : RoomForRegions g.region_count run lists counts) where
   -- Each region's places are as many as the slots, and its counts are three.
   sizes : (i : ℕ) → length (region_places k g at run i) ≡ length run
   sizes i = places_length (region_at k g i) at run
@@ -76,31 +73,30 @@ module _ {k : ℕ} {g : Regions} {at : ℕ → ℕ → ℤ} {run lists counts : 
 
   module _ (l : r < g.region_count) where
     -- What the next region is lent lies within the slices and the buffers.
-    pub reached_rooms : TestedRegions k g → Rooms k g run after_lists after_counts r face place
+    pub reached_rooms : TestedRegions k g → Rooms k g run after_lists after_counts r face
     reached_rooms tested =
         let p = tested.parts r l in
         record {
           components_room = rw w.faces p.normals_room;
           offsets_room = rw w.faces p.offsets_room;
           marks_room = rw w.faces p.marks_room;
-          places_room = omega (arith, w.places, lists_length, suc-mul r (length run), mul-le-mul_right (length run) l, room.lists_room);
+          places_room = omega (arith, lists_length, suc-mul r (length run), mul-le-mul_right (length run) l, room.lists_room);
           three_room = omega (arith, counts_length, room.counts_room);
         }
 
-    -- It is listed in its part of each, and the one after it starts behind it.
-    pub reached_next : {f : Faces} {own three : List ℕ} {next_face next_place : ℕ} (slots count size : ℕ) → slots ≡ length run → count ≡ r * 3 → size ≡ 3
-        → next_face ≡ face + faces_in g.face_counts r → next_place ≡ place + length run → f ≡ faces_of_region k g r → RegionListed (region k f) at run own three
-        → Reached k g at run lists counts (r + 1) next_face next_place
+    -- It is listed in its part of each, and the faces of the one after it start behind its own.
+    pub reached_next : {f : Faces} {own three : List ℕ} {next_face : ℕ} (place slots count size : ℕ) → place ≡ r * length run → slots ≡ length run → count ≡ r * 3 → size ≡ 3
+        → next_face ≡ face + faces_in g.face_counts r → f ≡ faces_of_region k g r → RegionListed (region k f) at run own three
+        → Reached k g at run lists counts (r + 1) next_face
         (take place after_lists ++ (own ++ drop slots (drop place after_lists)))
         (take count after_counts ++ (three ++ drop size (drop count after_counts)))
-    reached_next {own = own} {three} slots count size many starts third faces places same v =
+    reached_next {own = own} {three} place slots count size starts many third sized faces same v =
         let u = subst (λ (f : Faces). RegionListed (region k f) at run own three) same v in
         record {
           few = omega arith;
           faces = rw (faces, w.faces) (total_next r (faces_in g.face_counts));
-          places = omega (arith, places, w.places, add-mul r 1 (length run));
           done = record {
-            listed = filled_next sizes w.done.listed w.places many u.listed;
-            counted = filled_next threes w.done.counted starts third u.counted;
+            listed = filled_next sizes w.done.listed starts many u.listed;
+            counted = filled_next threes w.done.counted third sized u.counted;
           };
         }

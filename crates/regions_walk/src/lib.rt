@@ -2,90 +2,54 @@
 // the counts buffer.
 #![tactic(auto)]
 
+pub mod joined;
+
 ghost use Rattle.std.specs.Prelude.{◌≡◌, ◌≤◌, length};
-ghost use Rattle.terms.specs.Lent.{faces_of, regions_of};
 ghost use Rattle.terms.specs.Points.{coord};
-ghost use Rattle.terms.specs.Box.{box_of};
-ghost use Rattle.terms.specs.Region.{region};
-ghost use Rattle.theory.specs.RegionFaces.{TestedRegions};
-ghost use Rattle.region.specs.Ranges.{KnownFaces};
-ghost use Rattle.descent.specs.Root.{Rooted};
+ghost use Rattle.region.specs.Told.{region_of};
+ghost use Rattle.regions_walk.specs.Joined.{regions_in};
 ghost use Rattle.regions_walk.specs.RegionListed.{RegionListed};
 ghost use Rattle.regions_walk.specs.RegionsListed.{RoomForRegions, RegionsListed};
 
-use terms::CornerRows;
+use descent::shelf::Shelf;
+use joined::JoinedFaces;
+use region::lent::LentFaces;
 use walk::walk;
 
 // Lists one region in the places that are lent for it, and writes its counts: inside, outside, visits.
-fn list_region(
-    k: usize,
-    points: &[i32],
-    order: &[u32],
-    normals: &[i32],
-    offsets: &[i64],
-    marks: &[u8],
-    rows: CornerRows,
-    list: &mut [u32],
-    counts: &mut [u32],
-)
-    requires rooted { Rooted k points.now order.now (box_of rows) }
-    requires known_faces { KnownFaces k (faces_of normals.now offsets.now marks.now) }
-    requires order_len_bound { length order.now ≤ 65535 }
-    requires list_len { length list.old ≡ length order.now }
+fn list_region(shelf: &Shelf, faces: &LentFaces, list: &mut [u32], counts: &mut [u32])
+    requires same_k { faces.now.k ≡ shelf.now.k }
+    requires order_len_bound { length shelf.now.order.now ≤ 65535 }
+    requires list_len { length list.old ≡ length shelf.now.order.now }
     requires counts_len { length counts.old ≡ 3 }
-    ensures { RegionListed (region k (faces_of normals.now offsets.now marks.now)) (coord k points.now)
-        order.now list.new counts.new }
+    ensures { RegionListed (region_of faces.now) (coord shelf.now.k shelf.now.points.now) shelf.now.order.now list.new counts.new }
 {
-    let slots = order.len();
-    let tally = walk(k, points, order, normals, offsets, marks, rows, list);
-    counts[0] = tally.inside as u32;
-    counts[1] = (slots - tally.inside) as u32;
-    counts[2] = tally.visits as u32;
+    let tally = walk(shelf, faces, list);
+    let outside = shelf.order.len() - tally.inside;
+    counts.copy_from_slice(&[tally.inside as u32, outside as u32, tally.visits as u32]);
 }
 
-// Lists each region of a shelf that was checked, whose root box these rows are where it has a slot. A region's faces start where those of the region before it
-// end, and so do its places.
-pub fn walk_regions(
-    k: usize,
-    points: &[i32],
-    order: &[u32],
-    face_counts: &[u32],
-    normals: &[i32],
-    offsets: &[i64],
-    marks: &[u8],
-    rows: CornerRows,
-    lists: &mut [u32],
-    counts: &mut [u32],
-)
-    requires rooted { Rooted k points.now order.now (box_of rows) }
-    requires tested_regions { TestedRegions k (regions_of face_counts.now normals.now offsets.now marks.now) }
-    requires room_for_regions { RoomForRegions (length face_counts.now) order.now lists.old counts.old }
-    ensures { RegionsListed k (regions_of face_counts.now normals.now offsets.now marks.now) (coord k points.now)
-        order.now lists.old counts.old (length face_counts.now) lists.new counts.new }
+// Lists each region of a shelf against faces of as many dimensions. A region's faces start where those of the region before it end, and so do its places.
+pub fn walk_regions(shelf: &Shelf, regions: &JoinedFaces, lists: &mut [u32], counts: &mut [u32])
+    requires same_k { regions.now.k ≡ shelf.now.k }
+    requires room_for_regions { RoomForRegions (length regions.now.face_counts.now) shelf.now.order.now lists.old counts.old }
+    ensures { RegionsListed shelf.now.k (regions_in regions.now) (coord shelf.now.k shelf.now.points.now)
+        shelf.now.order.now lists.old counts.old (length regions.now.face_counts.now) lists.new counts.new }
 {
-    let slots = order.len();
-    let mut face: usize = 0;
-    let mut place: usize = 0;
-    for r in 0..face_counts.len() {
-        let h = face_counts[r] as usize;
-        let next_face = face + h;
-        let next_place = place + slots;
-        let component = k * face;
-        let next_component = component + k * h;
-        let count = r * 3;
-        let next_count = count + 3;
-        list_region(
-            k,
-            points,
-            order,
-            &normals[component..next_component],
-            &offsets[face..next_face],
-            &marks[face..next_face],
-            rows,
-            &mut lists[place..next_place],
-            &mut counts[count..next_count],
-        );
-        face = next_face;
-        place = next_place;
+    let slots = shelf.order.len();
+    let mut face = 0;
+    for (r, &count) in regions.face_counts.iter().enumerate() {
+        let h = count as usize;
+        let faces = LentFaces {
+            k: regions.k,
+            normals: &regions.normals[regions.k * face..regions.k * face + regions.k * h],
+            offsets: &regions.offsets[face..face + h],
+            marks: &regions.marks[face..face + h],
+        };
+        // The places by the region's number: after a loop over `chunks_mut`, or one that splits off what is left, a proof doesn't know what was written.
+        let list = &mut lists[r * slots..r * slots + slots];
+        let three = &mut counts[r * 3..r * 3 + 3];
+        list_region(shelf, &faces, list, three);
+        face += h;
     }
 }

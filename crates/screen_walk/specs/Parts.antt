@@ -1,5 +1,5 @@
 -- What the node part and the branch part ask of a branch and what they find in it, and that it goes on to the branches of an open branch in turn.
-use Rattle.std.specs.Prelude.{◌≡◌, refl, Bool, true, false, List, [], ℕ, ◌+◌, ◌-◌, ◌/◌, ◌≤◌, ◌<◌, length, get_or, ℤ}
+use Rattle.std.specs.Prelude.{◌≡◌, refl, Bool, true, false, List, [], ℕ, ◌+◌, ◌-◌, ◌/◌, ◌≤◌, ◌<◌, length, get_or, is_some, unwrap_or, ℤ}
 use Rattle.std.proofs.Common.{sym, ◌∙◌}
 use native.Mathlib.Omega.{arith}
 use Rattle.terms.specs.Tests.{count, keep}
@@ -16,7 +16,10 @@ use Rattle.theory.specs.Nesting.{above_all_settled, below_one_settled}
 use Rattle.theory.specs.Containment.{above_all_insides, below_one_insides}
 use Rattle.region.specs.Table.{tabled}
 use Rattle.region.specs.Live.{Lives}
+use Rattle.region.specs.Told.{faces_at}
+use Rattle.region.specs.declared.table.Table.{Table}
 use Rattle.descent.specs.declared.runs.Run.{Run}
+use Rattle.descent.specs.declared.shelf.Shelf.{Shelf}
 use Rattle.descent.specs.Slots.{run_of, own_of, run_length, run_starts, run_whole}
 use Rattle.descent.specs.Standing.{Standing, standing_left, standing_right}
 use Rattle.descent.specs.Boxed.{Boxed, boxed_own, boxed_left, boxed_right}
@@ -104,9 +107,12 @@ module _ {k : ℕ} {points : List ℤ} {order : List ℕ} {f : Faces} {a c s : �
       let none : c / 2 ≡ 0 = omega arith in
       record { none = rw none refl; visits = rw none (omega arith) }
 
-  -- Said of the value that the left branch is handed on as.
-  module _ {start size split : ℕ} {box : Box}
-      (l : Child a (c / 2) (axis k (s + 1)) (left_box b s (coord k points (own_of order a c) s)) start size split box) where
+  -- Said of the value that the left branch is handed on as, where x is the coordinate of the node on the dimension of the split and its branches split on the next.
+  module _ {x : ℤ} {next : ℕ} (x_is : x ≡ coord k points (own_of order a c) s) (next_is : next ≡ axis k (s + 1))
+      {start size split : ℕ} {box : Box} (left : Child a (c / 2) next (left_box b s x) start size split box) where
+    l : Child a (c / 2) (axis k (s + 1)) (left_box b s (coord k points (own_of order a c) s)) start size split box
+    l = rw (x_is, next_is) at left
+
     pub screenable_left : Screenable k points order f start size split box live n u
     screenable_left = rw (l.starts, l.slots, l.splits, l.in_box) left_screenable
 
@@ -138,12 +144,16 @@ module _ {k : ℕ} {points : List ℤ} {order : List ℕ} {f : Faces} {a c s : �
         (slot_boxes_whole k (coord k points) order a c fits some s w.standing.splits b, run_whole order a c fits some)
         (screened_own _ _ _ _ _ _ _ _ (lefts_length _ _ ∙ half) e l.none l.visits i)
 
-    module _ {start size split : ℕ} {box : Box}
-        (r : Child (a + c / 2 + 1) (c - c / 2 - 1) (axis k (s + 1)) (right_box b s (coord k points (own_of order a c) s)) start size split box) where
+    -- The right branch alike.
+    module _ {x : ℤ} {next : ℕ} (x_is : x ≡ coord k points (own_of order a c) s) (next_is : next ≡ axis k (s + 1))
+        {start size split : ℕ} {box : Box} (right : Child (a + c / 2 + 1) (c - c / 2 - 1) next (right_box b s x) start size split box) where
+      r : Child (a + c / 2 + 1) (c - c / 2 - 1) (axis k (s + 1)) (right_box b s (coord k points (own_of order a c) s)) start size split box
+      r = rw (x_is, next_is) at right
+
       pub screenable_right : Screenable k points order f start size split box live n (v + 1)
       screenable_right = rw (r.starts, r.slots, r.splits, r.in_box) (right_screenable seen_most)
 
-      -- It is outside: the right branch has the answer.
+      -- The node's own number is outside: the right branch has the answer.
       pub screened_by_right : {found : Bool} {number last : ℕ} → is_open (tabled k f) b ≡ true → inside (tabled k f) (coord k points (own_of order a c)) ≡ false
           → BranchScreened k points order f start size split box (v + 1) found number last → BranchScreened k points order f a c s b u found number last
       screened_by_right e i z =
@@ -153,11 +163,13 @@ module _ {k : ℕ} {points : List ℤ} {order : List ℕ} {f : Faces} {a c s : �
           (slot_boxes_whole k (coord k points) order a c fits some s w.standing.splits b, run_whole order a c fits some)
           (screened_right _ _ _ _ _ _ _ _ (lefts_length _ _ ∙ half) e l.none l.visits i x)
 
--- What both parts ask of the branch and what they find, read off the values that they take and give.
-abbrev pub BranchAsks : ℕ → List ℤ → List ℕ → Faces → Run → List ℕ → ℕ → ℕ → Type 0
-BranchAsks k points order f run live count visits =
-    Screenable k points order f run.start run.length run.axis (box_of run.rows) live count visits
+-- What both parts ask of the branch, read off the values that they take: the shelf and the table of the faces have the same dimensions, and it can be screened.
+pub record BranchAsks (s : Shelf) (t : Table) (run : Run) (live : List ℕ) (visits : ℕ) : Type 0 where
+  pub same_k : t.k ≡ s.k
+  pub screenable : Screenable s.k s.points.now s.order.now (faces_at t) run.start run.length run.axis (box_of run.rows) live (length live) visits
 
-abbrev pub BranchDoes : ℕ → List ℤ → List ℕ → Faces → Run → ℕ → Seen → Type 0
-BranchDoes k points order f run visits seen =
-    BranchScreened k points order f run.start run.length run.axis (box_of run.rows) visits seen.found seen.number seen.visits
+-- What they find, read off the values that they take and give.
+abbrev pub BranchDoes : Shelf → Table → Run → ℕ → Seen → Type 0
+BranchDoes s t run visits seen =
+    BranchScreened s.k s.points.now s.order.now (faces_at t) run.start run.length run.axis (box_of run.rows) visits
+    (is_some seen.number) (unwrap_or seen.number 0) seen.visits

@@ -1,5 +1,5 @@
 -- The screen of a whole shelf: the root is a branch of all slots that splits on dimension 0, in the root box, and what its screen finds is what the words say of the shelf.
-use Rattle.std.specs.Prelude.{◌≡◌, refl, Bool, true, false, List, [], ◌∷◌, map, ℕ, ◌<◌, length, take, ℤ}
+use Rattle.std.specs.Prelude.{◌≡◌, refl, Bool, true, false, List, [], ◌∷◌, map, ℕ, ◌<◌, length, take, is_some, unwrap_or, ℤ}
 use Rattle.std.proofs.Common.{sym, ◌∙◌, arith}
 use Rattle.std.proofs.Math.Path.{ap}
 use Rattle.std.proofs.Math.Seq.{take-length}
@@ -15,29 +15,28 @@ use Rattle.theory.specs.BoxesAlike.{tests_alike}
 use Rattle.theory.specs.Nesting.{open_alike}
 use Rattle.theory.specs.FirstInside.{count_take}
 use Rattle.region.specs.Table.{Tabled, tabled, inside_tabled, open_tabled}
-use Rattle.region.specs.Ranges.{KnownTable}
-use Rattle.region.specs.Live.{AllLive}
 use Rattle.descent.specs.Slots.{run_of}
+use Rattle.descent.specs.Faced.{Faced}
 use Rattle.descent.specs.SlotBoxes.{slot_boxes}
 use Rattle.descent.specs.Root.{Rooted, boxed_root}
+use Rattle.screen_walk.specs.declared.Seen.{Seen}
 use Rattle.screen_walk.specs.Screened.{Screened, opens_seen}
 use Rattle.screen_walk.specs.Parts.{Screenable}
 
 -- The root can be screened.
-pub screenable_root : {k : ℕ} {points : List ℤ} {order : List ℕ} {f : Faces} {b : Box} {live : List ℕ}
-    → Rooted k points order b → KnownTable k f → AllLive f.h live f.h → Screenable k points order f 0 (length order) 0 b live f.h 0
-screenable_root r faces all = record {
-  standing = r.standing;
-  boxed = boxed_root r;
-  faced = record { faces = faces; lives = all.lives _ _ refl };
-  seen = omega arith;
-}
+pub screenable_root : {k : ℕ} {points : List ℤ} {order : List ℕ} {f : Faces} {b : Box} {live : List ℕ} {count : ℕ}
+    → Rooted k points order b → Faced k f b live count → Screenable k points order f 0 (length order) 0 b live count 0
+screenable_root r faced = record { standing = r.standing; boxed = boxed_root r; faced = faced; seen = omega arith }
 
 -- What the screen of a shelf finds and answers.
 pub record ShelfScreened (g : Region) (at : ℕ → ℕ → ℤ) (order : List ℕ) (found : Bool) (number u : ℕ) : Type 0 where
   pub none : found ≡ false → insides g at order ≡ []
   pub one : found ≡ true → (rest : List ℕ) × (insides g at order ≡ number ∷ rest)
   pub visited : u ≡ screen_visits g at order
+
+-- The same, read off the value that the screen gives.
+abbrev pub ShelfSeen : Region → (ℕ → ℕ → ℤ) → List ℕ → Seen → Type 0
+ShelfSeen g at order seen = ShelfScreened g at order (is_some seen.number) (unwrap_or seen.number 0) seen.visits
 
 -- The open boxes that are seen from the root's box are those seen from the root box of the slots.
 root_seen : (g : Region) (at : ℕ → ℕ → ℤ) (order : List ℕ) {b : Box} → (0 < length order → Alike g.k b (root_box at order))

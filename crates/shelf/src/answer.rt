@@ -1,12 +1,15 @@
 // What the program answers to a text: it reads the text, arranges the shelf, lists it against the region, and writes the answer.
 ghost use Rattle.std.specs.Prelude.{◌≡◌, ◌≤◌, length};
-ghost use Rattle.terms.specs.Lent.{stock, order_of, faces};
+ghost use Rattle.terms.specs.Lent.{order_of};
+ghost use Rattle.terms.specs.LentValues.{stock_of, lent_faces};
 ghost use Rattle.terms.specs.Live.{live_count};
-ghost use Rattle.shelf.specs.Answer.{Listed, Shelved, Answer, Writes};
+ghost use Rattle.shelf.specs.Answer.{Listed as ListedShelf, Shelved, Answer, Writes};
 
-use hornherder::arranging::hornherder_arrange;
-use hornherder::list::hornherder_list;
-use text::input::read;
+use hornherder::arranging::arrange;
+use hornherder::list::list;
+use terms::lent::{Faces, Stock};
+use terms::refusal::Refusal;
+use text::input::{Sizes, read};
 use text::output::{write_answer, write_refused};
 
 // Writes the answer to a text, and says how many bytes it is. The faces of a text are closed, and its points all live.
@@ -14,91 +17,54 @@ pub fn answer(input: &[u8], out: &mut [u8]) -> usize
     requires { 16384 ≤ length out.old }
     ensures { Writes (Answer input.now) out.new result }
 {
-    let mut points = [0i32; 4608];
-    let mut normals = [0i32; 576];
-    let mut offsets = [0i64; 64];
-    let closed = [0u8; 64];
-    let live = [1u8; 512];
-    let said = read(input, &mut points, &mut normals, &mut offsets);
-    if !said.ok {
-        return write_refused(10, out);
-    }
-    let k = said.k;
-    let n = said.n;
-    let h = said.h;
-    let coordinates = k * n;
-    let components = k * h;
-    arrange_shelf(
+    let mut points = [0; 4608];
+    let mut normals = [0; 576];
+    let mut offsets = [0; 64];
+    let closed = [0; 64];
+    let live = [1; 512];
+    let Some(Sizes { k, n, h }) = read(input, &mut points, &mut normals, &mut offsets) else {
+        return write_refused(Refusal::Text.number(), out);
+    };
+    let stock = Stock {
         k,
         n,
+        points: &points[..k * n],
+        live: &live[..n],
+    };
+    let faces = Faces {
         h,
-        &points[0..coordinates],
-        &live[0..n],
-        &normals[0..components],
-        &offsets[0..h],
-        &closed[0..h],
-        out,
-    )
+        normals: &normals[..k * h],
+        offsets: &offsets[..h],
+        marks: &closed[..h],
+    };
+    arrange_shelf(&stock, &faces, out)
 }
 
 // Arranges the shelf of the points and lists it, or writes the refusal of the arrange call.
-fn arrange_shelf(
-    k: usize,
-    n: usize,
-    h: usize,
-    points: &[i32],
-    live: &[u8],
-    normals: &[i32],
-    offsets: &[i64],
-    marks: &[u8],
-    out: &mut [u8],
-) -> usize
-    requires n_bound { n ≤ 512 }
-    requires live_value { live_count n live.now ≡ n }
+fn arrange_shelf(stock: &Stock, faces: &Faces, out: &mut [u8]) -> usize
+    requires n_bound { stock.now.n ≤ 512 }
+    requires live_value { live_count stock.now.n stock.now.live.now ≡ stock.now.n }
     requires in_bounds { 16384 ≤ length out.old }
-    ensures { Writes (Shelved (stock k n points.now live.now) (faces h normals.now offsets.now marks.now)) out.new result }
+    ensures { Writes (Shelved (stock_of stock.now) (lent_faces faces.now)) out.new result }
 {
-    let mut order = [0u32; 512];
-    let arranging = hornherder_arrange(k, n, points, live, &mut order);
-    if arranging.code != 0 {
-        return write_refused(arranging.code, out);
+    let mut order = [0; 512];
+    match arrange(stock, &mut order) {
+        Ok(_) => list_shelf(stock, &order, faces, out),
+        Err(refusal) => write_refused(refusal.number(), out),
     }
-    list_shelf(k, n, h, points, live, &order, normals, offsets, marks, out)
 }
 
 // Lists a shelf and writes its order, the counts and the list, or the refusal of the list call.
-fn list_shelf(
-    k: usize,
-    n: usize,
-    h: usize,
-    points: &[i32],
-    live: &[u8],
-    order: &[u32],
-    normals: &[i32],
-    offsets: &[i64],
-    marks: &[u8],
-    out: &mut [u8],
-) -> usize
-    requires n_bound { n ≤ 512 }
-    requires live_value { live_count n live.now ≡ n }
-    requires n_in_bounds { n ≤ length order.now }
+fn list_shelf(stock: &Stock, order: &[u32], faces: &Faces, out: &mut [u8]) -> usize
+    requires n_bound { stock.now.n ≤ 512 }
+    requires live_value { live_count stock.now.n stock.now.live.now ≡ stock.now.n }
+    requires n_in_bounds { stock.now.n ≤ length order.now }
     requires in_bounds { 16384 ≤ length out.old }
-    ensures { Writes (Listed (stock k n points.now live.now) (order_of order.now) (faces h normals.now offsets.now marks.now)) out.new result }
+    ensures { Writes (ListedShelf (stock_of stock.now) (order_of order.now) (lent_faces faces.now)) out.new result }
 {
-    let mut list = [0u32; 512];
-    let listing = hornherder_list(
-        k, n, h, points, live, order, normals, offsets, marks, &mut list,
-    );
-    if listing.code != 0 {
-        return write_refused(listing.code, out);
+    let mut places = [0; 512];
+    match list(stock, order, faces, &mut places) {
+        Ok(listed) => write_answer(&order[..stock.n], listed, &places[..stock.n], out),
+        Err(refusal) => write_refused(refusal.number(), out),
     }
-    write_answer(
-        n,
-        order,
-        listing.inside,
-        listing.outside,
-        listing.visits,
-        &list,
-        out,
-    )
 }

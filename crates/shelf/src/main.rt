@@ -11,14 +11,12 @@ use std::io::Write;
 
 fn main(rt: HostRuntime) -> io::Result<()> {
     let mut text = [0u8; 32769];
-    let taken = take_input(&mut rt.stdin(), &mut text);
-    if taken.failed {
+    let Ok(taken) = take_input(&mut rt.stdin(), &mut text) else {
         return rt
             .stderr()
             .write_all(b"shelf: standard input cannot be read\n");
-    }
+    };
     let mut out = [0u8; 16384];
-    let count = taken.count;
-    let written = answer(&text[0..count], &mut out);
-    rt.stdout().write_all(&out[0..written])
+    let written = answer(&text[..taken.count], &mut out);
+    rt.stdout().write_all(&out[..written])
 }

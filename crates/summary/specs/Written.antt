@@ -1,8 +1,10 @@
 -- The 2k numbers of a box, dimension by dimension: the first d coordinates of both rows stand in their places.
-use Rattle.std.specs.Prelude.{◌≡◌, refl, false, List, ℕ, ◌+◌, ◌-◌, ◌≤◌, ◌<◌, length, get_or, set, ℤ, pos}
-use Rattle.std.proofs.Common.{sym, ap, ◌∙◌, arith, length-set, get_or-set_same, get_or-set_other, ext_get_or, SFits, to_z, of_z, to_z-of_z, below_more}
+use Rattle.std.specs.Prelude.{◌≡◌, refl, false, List, ◌++◌, ℕ, ◌+◌, ◌-◌, ◌≤◌, ◌<◌, length, take, get_or, set, ℤ, pos}
+use Rattle.std.proofs.Common.{sym, ap, ◌∙◌, arith, length-set, get_or-set_same, get_or-set_other, ext_get_or, SFits, to_z, of_z, to_z-of_z, below_more, length-append, length-take-le, get_or-take, get_or-append-add}
 use Rattle.std.proofs.Math.Decide.{dec_lt}
+use Rattle.std.proofs.Math.ListN.{get_or-append}
 use Rattle.std.specs.Int.{w32}
+use Rattle.terms.specs.Points.{lone}
 use Rattle.terms.specs.Box.{Box}
 use Rattle.terms.specs.Summary.{corners, same_numbers}
 use Rattle.theory.specs.Flags.{contra}
@@ -61,6 +63,19 @@ module _ {k : ℕ} {b : Box} {d : ℕ} {places : List ℤ} (w : WrittenTo k b d 
           let e : i ≡ k + (i - k) = omega arith in
           let h : i - k < k = omega arith in
           rw e (w.highs (i - k) (omega (arith, w.turns)) ∙ sym (corners_high k b (i - k) h))
+
+-- The first k numbers of both rows, one row after the other, are the box's numbers.
+pub rows_written : (k : ℕ) (low high : List ℤ) → k ≤ length low → k ≤ length high
+    → take k low ++ take k high ≡ corners k (record { low = lone low; high = lone high })
+rows_written k low high some more =
+    let n : length (take k low) ≡ k = length-take-le k low some in
+    let m : length (take k high) ≡ k = length-take-le k high more in
+    written_all {d = k} (record {
+      turns = omega arith;
+      size = omega (arith, length-append (take k low) (take k high));
+      lows = λ e l. get_or-append (take k low) (take k high) (pos 0) e (omega arith) ∙ rw get_or-take;
+      highs = λ e l. rw n at (get_or-append-add (take k low) (take k high) e (pos 0)) ∙ rw get_or-take;
+    }) (omega arith)
 
 -- The code compares the bits of two coordinates that fit.
 pub same_bits : {x y : ℤ} → SFits w32 x → SFits w32 y → of_z w32 x ≡ of_z w32 y → x ≡ y

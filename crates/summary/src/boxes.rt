@@ -14,10 +14,7 @@ pub fn read_box(k: usize, summary: &[i32], slot: usize) -> CornerRows
 {
     let low = point_at(k, summary, slot + slot);
     let high = point_at(k, summary, slot + slot + 1);
-    CornerRows {
-        low: low,
-        high: high,
-    }
+    CornerRows { low, high }
 }
 
 // Writes a box to its 2k places.
@@ -26,14 +23,8 @@ pub fn write_box(k: usize, rows: CornerRows, places: &mut [i32])
     requires places_len { length places.old ≡ k + k }
     ensures { places.new ≡ corners k (box_of rows) }
 {
-    let low = rows.low;
-    let high = rows.high;
-    for d in 0..k {
-        let x = low[d];
-        let y = high[d];
-        places[d] = x;
-        places[k + d] = y;
-    }
+    places[..k].copy_from_slice(&rows.low[..k]);
+    places[k..].copy_from_slice(&rows.high[..k]);
 }
 
 // Whether 2k numbers are a box's.
@@ -42,17 +33,5 @@ pub fn same_box(k: usize, rows: CornerRows, places: &[i32]) -> bool
     requires places_len { length places.now ≡ k + k }
     ensures { result ≡ same_numbers places.now (corners k (box_of rows)) }
 {
-    let low = rows.low;
-    let high = rows.high;
-    for d in 0..k {
-        let x = low[d];
-        if places[d] != x {
-            return false;
-        }
-        let y = high[d];
-        if places[k + d] != y {
-            return false;
-        }
-    }
-    true
+    places[..k] == rows.low[..k] && places[k..] == rows.high[..k]
 }

@@ -7,7 +7,6 @@ ghost use Rattle.summary.specs.Joined.{Joined};
 ghost use Rattle.summary.specs.BranchBox.{BranchesStored};
 
 use crate::boxes::read_box;
-use descent::numbers_box::choose;
 use descent::points::point_at;
 use terms::CornerRows;
 
@@ -15,24 +14,17 @@ use terms::CornerRows;
 fn joined(a: CornerRows, b: CornerRows) -> CornerRows
     ensures { Joined (box_of a) (box_of b) (box_of result) }
 {
-    let a_low = a.low;
-    let b_low = b.low;
-    let a_high = a.high;
-    let b_high = b.high;
-    let mut low: [i32; 4] = [0; 4];
-    let mut high: [i32; 4] = [0; 4];
+    let mut low = [0; 4];
+    let mut high = [0; 4];
     for d in 0..4 {
-        let x = a_low[d];
-        let y = b_low[d];
-        low[d] = choose(y < x, y, x);
-        let z = a_high[d];
-        let w = b_high[d];
-        high[d] = choose(z < w, w, z);
+        let x = a.low[d];
+        let y = b.low[d];
+        low[d] = x.min(y);
+        let z = a.high[d];
+        let w = b.high[d];
+        high[d] = w.max(z);
     }
-    CornerRows {
-        low: low,
-        high: high,
-    }
+    CornerRows { low, high }
 }
 
 // The tight box of the branch of these slots, of which there is one, where the summary has the boxes of its two branches.

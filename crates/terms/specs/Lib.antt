@@ -1,6 +1,7 @@
 pub mod Tests
 pub mod Live
 pub mod Lent
+pub mod LentValues
 pub mod Points
 pub mod Before
 pub mod Run
@@ -25,6 +26,7 @@ pub mod Bound
 pub mod Value
 pub mod Reading
 pub mod Refusals
+pub mod RefusalNumbers
 pub mod ArrangeCall
 pub mod ListCall
 pub mod ListRegionsCall
@@ -34,6 +36,7 @@ pub mod PlaceCall
 pub mod PointCall
 pub mod TakeCall
 pub mod WithdrawCall
+pub mod AnswersForC
 pub mod Examples
 pub mod Unmarked
 pub mod Mirror

@@ -1,23 +1,22 @@
 -- The calls that make a point from a reading: what they give for any arguments, and the lent place afterwards.
-use Rattle.std.specs.Prelude.{◌≡◌, List, [], ◌∷◌, ◌++◌, ℕ, ℤ}
+use Rattle.std.specs.Prelude.{◌≡◌, Some, None, Ok, Err, List, [], ◌∷◌, ◌++◌, ℕ, ℤ}
 use Rattle.terms.specs.declared.Reading.{Reading}
-use Rattle.terms.specs.declared.Given.{Given}
-use Rattle.terms.specs.declared.Given.TheVariants.{Point, NoPoint, OutOfRange}
 use Rattle.terms.specs.declared.Making.{Making}
-use Rattle.terms.specs.Reading.{gives}
+use Rattle.terms.specs.RefusalNumbers.{number_of}
+use Rattle.terms.specs.Reading.{Given, gives}
 use Rattle.terms.specs.Refusals.{Refusal, first_of, length_refusals, value_refusals, if_done}
 
--- The numbers for each case of what a reading gives, where the place is three long: a point is 0 and made, no point is 0, and out of range is 12.
+-- The numbers for each case of what a reading gives, where the place is three long: a point is 0 and made, no point is 0, and out of range is its number, 12.
 abbrev pub numbers_of : Given → Making
-numbers_of (Point p) = record { code = 0; made = 1 }
-numbers_of NoPoint = record { code = 0; made = 0 }
-numbers_of OutOfRange = record { code = 12; made = 0 }
+numbers_of (Ok (Some p)) = record { code = 0; made = 1 }
+numbers_of (Ok None) = record { code = 0; made = 0 }
+numbers_of (Err refusal) = record { code = number_of refusal; made = 0 }
 
 -- The place for each case: the point's three numbers, or as it was.
 abbrev pub place_of : Given → List ℤ → List ℤ
-place_of (Point p) place = p.first ∷ p.second ∷ p.third ∷ []
-place_of NoPoint place = place
-place_of OutOfRange place = place
+place_of (Ok (Some p)) place = p.first ∷ p.second ∷ p.third ∷ []
+place_of (Ok None) place = place
+place_of (Err refusal) place = place
 
 -- A point from a reading: 3, then 12.
 abbrev pub point_refusals : Reading → List ℤ → List Refusal

@@ -1,7 +1,11 @@
-// The values that the calls share: the box as one value, a reading and what it gives, a reason, and the answers.
+// The values that the calls share: the box as one value, a reading and the point that it gives, a reason, and the answers as C has them.
 #![tactic(auto)]
 
+pub mod answers;
 pub mod axis;
+pub mod for_c;
+pub mod lent;
+pub mod refusal;
 
 // A box: its least and its greatest coordinate in each dimension. Places from k on mean nothing.
 #[derive(Clone, Copy)]
@@ -32,14 +36,6 @@ pub struct Triple {
     pub first: i32,
     pub second: i32,
     pub third: i32,
-}
-
-// What a reading gives: a point, no point where nothing was measured, or a value that is not finite or out of range.
-#[derive(Clone, Copy)]
-pub enum Given {
-    Point(Triple),
-    NoPoint,
-    OutOfRange,
 }
 
 // Why a number is inside or outside: settled with a whole branch, or by its own test. The slot comes first, then, for outside, the face and the margin of

@@ -1,7 +1,7 @@
 -- The lines of all points, and of all faces, read one after the other. A line more at the end is a line more of the block; and a block that begins at
 -- the same place agrees with the lines that were read, so a line that is missed is missed in every such block.
 use Rattle.std.specs.Prelude.{◌≡◌, refl, Bool, true, false, not, List, [], ◌∷◌, ◌++◌, ℕ, zero, suc, ◌+◌, ◌-◌, ◌*◌, ◌≤◌, ◌<◌, length, drop, set, ℤ}
-use Rattle.std.proofs.Common.{sym, ap, ◌∙◌, append_assoc, append-nil, mul-le-mul_left, arith, length-take, length-drop, take-append-drop, take_all, take-suc-set}
+use Rattle.std.proofs.Common.{sym, ap, ◌∙◌, append_assoc, append-nil, mul-le-mul_left, arith, length-take, length-drop, length-take-le, take-append-drop, take_all, take-suc-set}
 use Rattle.std.proofs.Math.Numerals.{add-one}
 use Rattle.std.proofs.Math.ListN.{take, length-append, length-set}
 use Rattle.std.proofs.Math.Seq.{take-add}
@@ -12,6 +12,7 @@ use Rattle.text.specs.Input.{line, point_lines, face_lines, is_signed32, is_shor
 use Rattle.text.specs.OneToOne.{line_end}
 use Rattle.text.specs.Ranges.{every_parts, parts_every, short_range, range_short}
 use Rattle.text.specs.Reading.{Stands, stands_none, stands_then, Reads, hits, misses}
+use Rattle.text.specs.Parts.{take_front}
 use Rattle.text.specs.RowReading.{Row, ReadsInto}
 use Rattle.text.specs.LineReading.{LineRange, ReadsLine}
 
@@ -223,3 +224,11 @@ pub faces_done : {text : List ℕ} {at k h place next : ℕ} {normals₀ offsets
 faces_done {k = k} {h} {place} {normals = normals} done =
     let row : Row (k * h) (take place normals) = record { size = done.row.size ∙ done.places; range = done.row.range } in
     rw (← done.places) (hits (record { row = row; size = done.size; range = done.range }) done.stands)
+
+-- Offsets that were read into the front of a list were read into the list.
+pub faces_front : {text : List ℕ} {at k next : ℕ} {ok : Bool} (h : ℕ) (normals offsets part : List ℤ) → h ≤ length offsets
+    → length part ≡ length (take h offsets) → ReadsFaces text at k (length (take h offsets)) normals part ok next
+    → ReadsFaces text at k h normals (part ++ drop h offsets) ok next
+faces_front h normals offsets part l p read =
+    let size = length-take-le h offsets l in
+    rw (take_front part (drop h offsets) (p ∙ size)) (rw (size, take_all h part (omega (arith, size, p))) at read)

@@ -7,6 +7,7 @@ pub mod DecimalLaws
 pub mod OneToOne
 pub mod DigitRuns
 pub mod Reading
+pub mod Parts
 pub mod Ranges
 pub mod NaturalReading
 pub mod NumberReading
@@ -15,4 +16,5 @@ pub mod RowReading
 pub mod LineReading
 pub mod BlockReading
 pub mod TextReading
+pub mod Found
 pub mod Printing

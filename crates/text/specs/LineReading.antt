@@ -12,6 +12,7 @@ use Rattle.text.specs.Input.{space, newline, behind, numbers, line, is_signed32}
 use Rattle.text.specs.OneToOne.{numbers_end}
 use Rattle.text.specs.Reading.{Stands, stands_then, Reads, hits, misses, InRange, ReadsNumber}
 use Rattle.text.specs.Ranges.{every_parts, parts_every, signed_range, range_signed}
+use Rattle.text.specs.Parts.{take_front, part_back}
 use Rattle.text.specs.RowReading.{spaced, Row, ReadsInto, stored_row}
 
 behind_more : (xs : List ℤ) (z : ℤ) → behind (xs ++ (z ∷ [])) ≡ space
@@ -77,6 +78,17 @@ module _ {text : List ℕ} {at count place next : ℕ} {before after : List ℤ}
           let e : spaced ps ++ drop next text ≡ spaced xs ++ ((written z ++ (newline ∷ [])) ++ rest) = sym stands.bytes ∙ b ∙ line_cut xs z rest in
           let q = numbers_end (λ ys. omega arith) ps xs (row.size ∙ sym a.row.size) e in
           number.missed n z rest a.range q.1
+
+-- A line that was read into a part of a list was read into the list, from the part's place on.
+pub line_part : {text : List ℕ} {at deepest greatest next : ℕ} {was part : List ℤ} {ok : Bool} {last : ℤ} (count place : ℕ) (before back : List ℤ)
+    → place ≤ length before → length was ≡ count → length part ≡ length was
+    → ReadsLine text at (length was) deepest greatest 0 was part ok last next
+    → ReadsLine text at count deepest greatest place before (take place before ++ (part ++ back)) ok last next
+line_part {part = part} count place before back l c p read =
+    let size = length-take-le place before l in record {
+      kept = λ _. take_front (take place before) (part ++ back) size;
+      reads = rw (part_back place count (take place before) part back size (p ∙ c)) (rw c at read.reads);
+    }
 
 -- ---- the line of a point
 split_last : (j : ℕ) (ys : List ℤ) → length ys ≡ suc j → ys ≡ take j ys ++ (get_or ys j (pos 0) ∷ [])

@@ -1,9 +1,15 @@
 -- Writing bytes into a buffer from a place on: what two writers put one behind the other is put together.
-use Rattle.std.specs.Prelude.{◌≡◌, refl, List, [], ◌∷◌, ◌++◌, ℕ, ◌+◌, ◌*◌, ◌^◌, ◌/◌, ◌%◌, ◌≤◌, ◌<◌, length, get_or, take, set}
-use Rattle.std.proofs.Common.{sym, ◌∙◌, append_assoc, append-nil, add-one, arith, length-set, length-append, take-suc, take-suc-set}
+use Rattle.std.specs.Prelude.{◌≡◌, refl, List, [], ◌∷◌, ◌++◌, ℕ, ◌+◌, ◌-◌, ◌*◌, ◌^◌, ◌/◌, ◌%◌, ◌≤◌, ◌<◌, length, get_or, take, set}
+use Rattle.std.proofs.Common.{sym, ap, ◌∙◌, append_assoc, append-nil, add-one, arith, length-set, length-append, length-take, length-take-le, take-suc, take-suc-set}
+use Rattle.std.proofs.Math.Seq.{take-add}
+use Rattle.std.proofs.lemmas.List.{take-append-le}
+use Rattle.std.specs.Fmt.{decimal as std_decimal}
+use Rattle.std.proofs.lemmas.Fmt.{decimal_by_steps}
+use borrow.Rule.Slice.PartMut.{mid_of, post_of, put_mid}
 use Rattle.text.specs.Decimal.{decimal}
 use Rattle.text.specs.DecimalLaws.{decimal_small, decimal_step, decimal_length}
 use Rattle.text.specs.Input.{space, newline}
+use Rattle.text.specs.Parts.{take_front, drop_front, put_size}
 use Rattle.text.specs.Answer.{items, printed}
 
 -- The bytes w were put from `at` up to `next`; the places before are as they were.
@@ -34,6 +40,25 @@ put_then {a} {i = i} {w = w} {v} p q = record {
 pub take_more : (xs : List ℕ) (j : ℕ) → j < length xs → take (j + 1) xs ≡ take j xs ++ (get_or xs j 0 ∷ [])
 take_more xs j l = rw add-one (take-suc xs j 0 l)
 
+-- Bytes that were put at the front of the rest of a buffer were put into the buffer.
+pub put_part : {part w : List ℕ} {r : ℕ} (out : List ℕ) (at : ℕ) → at ≤ length out → Put (mid_of at (length out - at) out) part 0 r w
+    → Put out (put_mid at (length out - at) out part) at (at + r) w
+put_part {part} {w} {r} out at l p =
+    let front = length-take-le at out l in
+    let back : List ℕ = post_of at (length out - at) out in
+    let fits : r ≤ length part = omega (arith, p.place, ap length p.bytes, length-take r part) in record {
+      size = put_size at (length out - at) out part l p.size;
+      place = omega (arith, p.place);
+      bytes =
+          rw (
+            take-add at r (take at out ++ (part ++ back)),
+            take_front (take at out) (part ++ back) front,
+            drop_front (take at out) (part ++ back) front,
+            take-append-le r part back fits,
+          )
+          (ap (λ (t : List ℕ). take at out ++ t) p.bytes);
+    }
+
 -- ---- one number
 -- The last digit behind the others.
 pub put_digit : {before out : List ℕ} {at next : ℕ} (n : ℕ) → 10 ≤ n → Put before out at next (decimal (n / 10)) → next < length before
@@ -46,6 +71,13 @@ put_small out at n l s = rw (decimal_small n l) (put_one (48 + n) (put_none out 
 -- A number of 32 bits has at most ten digits.
 pub ten_digits : (n : ℕ) → n < 2 ^ 32 → length (decimal n) ≤ 10
 ten_digits n l = decimal_length n 9 (omega arith)
+
+-- The library writes the same digits.
+pub same_decimal : (n : ℕ) → n < 2 ^ 64 → decimal n ≡ std_decimal n
+same_decimal = decimal_by_steps
+    (λ n digits. decimal n ≡ digits)
+    (λ n l. decimal_small n l)
+    (λ n digits l e. decimal_step n l ∙ ap (λ (t : List ℕ). t ++ ((48 + n % 10) ∷ [])) e)
 
 -- ---- numbers with a space in front of each
 items_more : (xs : List ℕ) (x : ℕ) → items (xs ++ (x ∷ [])) ≡ items xs ++ (space ∷ decimal x)
@@ -75,6 +107,10 @@ items_next {numbers = numbers} {j = j} p l few room q = record {
   short = omega (arith, p.short, q.place, ten_digits (get_or numbers j 0) few);
 }
 
+pub items_part : {part numbers : List ℕ} {r n : ℕ} (out : List ℕ) (at : ℕ) → at ≤ length out
+    → PutItems (mid_of at (length out - at) out) part 0 r n numbers → PutItems out (put_mid at (length out - at) out part) at (at + r) n numbers
+items_part out at l p = record { put = put_part out at l p.put; short = omega (arith, p.short) }
+
 -- What writing a line of n numbers promises.
 pub record PutLine (before after : List ℕ) (at next : ℕ) (word : List ℕ) (n : ℕ) (numbers : List ℕ) : Type 0 where
   pub put : Put before after at next (printed word (take n numbers))
@@ -87,6 +123,10 @@ put_line {word = word} {n} {numbers} p q l = record {
   put = rw (← append_assoc word (items (take n numbers)) (newline ∷ [])) (put_one newline (put_then p q.put) l);
   short = omega (arith, p.place, q.short);
 }
+
+pub line_part : {part word numbers : List ℕ} {r n : ℕ} (out : List ℕ) (at : ℕ) → at ≤ length out
+    → PutLine (mid_of at (length out - at) out) part 0 r word n numbers → PutLine out (put_mid at (length out - at) out part) at (at + r) word n numbers
+line_part out at l p = record { put = put_part out at l p.put; short = omega (arith, p.short) }
 
 -- The first r bytes of the buffer are the text.
 pub record Printed (out : List ℕ) (r : ℕ) (text : List ℕ) : Type 0 where

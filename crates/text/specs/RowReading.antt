@@ -1,7 +1,7 @@
 -- Rows of numbers with a space behind each, read into places of a list. What was read stands in the text; and whoever thinks that another row begins
 -- there must agree with what was read, number by number, so a number that is missed is missed in every such row.
 use Rattle.std.specs.Prelude.{◌≡◌, refl, Bool, true, false, not, List, [], ◌∷◌, ◌++◌, ℕ, ◌+◌, ◌≤◌, ◌<◌, length, take, drop, set, ℤ}
-use Rattle.std.proofs.Common.{sym, ◌∙◌, append_assoc, add-one, arith, length-set, length-take, length-drop, take-suc-set}
+use Rattle.std.proofs.Common.{sym, ◌∙◌, append_assoc, add-one, arith, length-set, length-take, length-drop, length-take-le, take-suc-set}
 use Rattle.std.proofs.lemmas.List.{drop-set-add, take-set-le}
 use Rattle.terms.specs.Tests.{every}
 use Rattle.theory.specs.Flags.{and_true, not_true, clash}
@@ -9,6 +9,7 @@ use Rattle.text.specs.Decimal.{written}
 use Rattle.text.specs.Input.{space, numbers, is_signed32}
 use Rattle.text.specs.OneToOne.{written_end}
 use Rattle.text.specs.Reading.{Stands, stands_none, stands_then, Reads, hits, misses, InRange, ReadsNumber}
+use Rattle.text.specs.Parts.{take_front, part_back}
 use Rattle.text.specs.Ranges.{signed_range, range_signed, parts_every}
 
 -- Numbers with a space behind each.
@@ -54,6 +55,16 @@ pub record Filling (text : List ℕ) (at place : ℕ) (before into : List ℤ) (
 pub record ReadsInto (writing : List ℤ → List ℕ) (text : List ℕ) (at count place : ℕ) (before after : List ℤ) (ok : Bool) (next : ℕ) : Type 0 where
   pub kept : ok ≡ true → take place after ≡ take place before
   pub reads : Reads (Row count) writing text at ok (take count (drop place after)) next
+
+-- A row that was read into a part of a list was read into the list, from the part's place on.
+pub into_part : {writing : List ℤ → List ℕ} {text : List ℕ} {at next : ℕ} {was part : List ℤ} {ok : Bool} (count place : ℕ) (before back : List ℤ)
+    → place ≤ length before → length was ≡ count → length part ≡ length was → ReadsInto writing text at (length was) 0 was part ok next
+    → ReadsInto writing text at count place before (take place before ++ (part ++ back)) ok next
+into_part {part = part} count place before back l c p read =
+    let size = length-take-le place before l in record {
+      kept = λ _. take_front (take place before) (part ++ back) size;
+      reads = rw (part_back place count (take place before) part back size (p ∙ c)) (rw c at read.reads);
+    }
 
 pub filling_none : {text : List ℕ} {at : ℕ} (place : ℕ) (into : List ℤ) → at ≤ length text → Filling text at place into into 0 at
 unfolding numbers every

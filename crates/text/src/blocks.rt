@@ -1,58 +1,35 @@
 // Reading the lines of all points and of all faces.
-ghost use Rattle.std.specs.Prelude.{◌*◌, ◌≤◌, length};
-ghost use Rattle.text.specs.BlockReading.{ReadsPoints, ReadsFaces};
+ghost use Rattle.std.specs.Prelude.{◌≡◌, ◌*◌, ◌≤◌, length};
+ghost use Rattle.text.specs.Found.{FindsPoints, FindsFaces};
 
-use crate::rows::{NO_STEP, Step, read_line, read_point};
+use crate::cursor::{Cursor, TEN_DIGITS};
 
-// Reads the lines of n points, k coordinates each, into the first k times n places.
-pub fn read_points(text: &[u8], at: usize, k: usize, n: usize, points: &mut [i32]) -> Step
-    requires at_in_bounds { at ≤ length text.now }
-    requires le_k { 1 ≤ k }
-    requires n_in_bounds { k * n ≤ length points.old }
-    ensures { ReadsPoints text.now at k n points.new result.ok result.next }
-{
-    let mut next = at;
-    let mut place = 0;
-    let mut i = 0;
-    while i < n {
-        let row = read_point(text, next, k, points, place);
-        if !row.ok {
-            return NO_STEP;
+impl Cursor<'_> {
+    // Reads the lines of n points, k coordinates each, into the first k times n places. An index, since of places that chunks_exact_mut lends a proof
+    // knows nothing once they are given back.
+    pub fn read_points(&mut self, k: usize, n: usize, points: &mut [i32]) -> Option<()>
+        requires le_k { 1 ≤ k }
+        requires n_in_bounds { k * n ≤ length points.old }
+        ensures found { FindsPoints self.old.text.now self.old.at k n points.new result self.new.at }
+        ensures text_unchanged { self.new.text.now ≡ self.old.text.now }
+    {
+        for i in 0..n {
+            let place = k * i;
+            self.read_point(&mut points[place..place + k])?;
         }
-        next = row.next;
-        place += k;
-        i += 1;
+        Some(())
     }
-    Step { ok: true, next }
-}
 
-// Reads the lines of h faces, k components and the offset each, into the first k times h and the first h places.
-pub fn read_faces(
-    text: &[u8],
-    at: usize,
-    k: usize,
-    h: usize,
-    normals: &mut [i32],
-    offsets: &mut [i64],
-) -> Step
-    requires at_in_bounds { at ≤ length text.now }
-    requires normals_room { k * h ≤ length normals.old }
-    requires offsets_room { h ≤ length offsets.old }
-    ensures { ReadsFaces text.now at k h normals.new offsets.new result.ok result.next }
-{
-    let mut next = at;
-    let mut place = 0;
-    let mut i = 0;
-    while i < h {
-        let row = read_line(text, next, k, 9999999999, 9999999999, normals, place);
-        if !row.ok {
-            return NO_STEP;
+    // Reads the line of each face that has a place for its offset, k components and the offset. An index for the components, for the same reason.
+    pub fn read_faces(&mut self, k: usize, normals: &mut [i32], offsets: &mut [i64]) -> Option<()>
+        requires normals_room { k * length offsets.old ≤ length normals.old }
+        ensures found { FindsFaces self.old.text.now self.old.at k (length offsets.old) normals.new offsets.new result self.new.at }
+        ensures text_unchanged { self.new.text.now ≡ self.old.text.now }
+    {
+        for (i, offset) in offsets.iter_mut().enumerate() {
+            let place = k * i;
+            *offset = self.read_line(&mut normals[place..place + k], TEN_DIGITS)?;
         }
-        let offset = row.value;
-        offsets[i] = offset;
-        next = row.next;
-        place += k;
-        i += 1;
+        Some(())
     }
-    Step { ok: true, next }
 }

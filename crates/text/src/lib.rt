@@ -2,6 +2,7 @@
 #![tactic(auto)]
 
 mod blocks;
+mod cursor;
 pub mod input;
 mod number;
 pub mod output;

@@ -1,92 +1,72 @@
-// Writing what the program answers.
-ghost use Rattle.std.specs.Prelude.{◌+◌, ◌*◌, ◌≤◌, length, take};
+// Writing what the program answers: each function writes to the front of the output, and answers how many bytes it wrote.
+ghost use Rattle.std.specs.Prelude.{◌+◌, ◌*◌, ◌≤◌, length};
 ghost use Rattle.text.specs.Decimal.{decimal};
 ghost use Rattle.text.specs.Printing.{Put, PutItems, PutLine, Printed};
 ghost use Rattle.text.specs.Answer.{answer_text, refused_text};
 
-// Writes the decimal digits of a number from a place on, and answers the place behind them.
-fn write_decimal(n: u32, out: &mut [u8], at: usize) -> usize
-    requires { at + length (decimal n) ≤ length out.old }
-    ensures { Put out.old out.new at result (decimal n) }
+use itoa::Buffer;
+use terms::answers::Listed;
+
+// Writes a word.
+fn write_word(word: &[u8], out: &mut [u8]) -> usize
+    requires { length word.now ≤ length out.old }
+    ensures { Put out.old out.new 0 result word.now }
 {
-    if n < 10 {
-        out[at] = b'0' + n as u8;
-        return at + 1;
-    }
-    let last = write_decimal(n / 10, out, at);
-    out[last] = b'0' + (n % 10) as u8;
-    last + 1
+    out[..word.len()].copy_from_slice(word);
+    word.len()
 }
 
-// Writes a word from a place on, and answers the place behind it.
-fn write_word(word: &[u8], out: &mut [u8], at: usize) -> usize
-    requires { at + length word.now ≤ length out.old }
-    ensures { Put out.old out.new at result word.now }
+// Writes the decimal digits of a number.
+fn write_decimal(n: u32, out: &mut [u8]) -> usize
+    requires { length (decimal n) ≤ length out.old }
+    ensures { Put out.old out.new 0 result (decimal n) }
 {
-    let mut next = at;
-    for j in 0..word.len() {
-        out[next] = word[j];
-        next += 1;
-    }
-    next
+    let mut digits = Buffer::new();
+    write_word(digits.format(n).as_bytes(), out)
 }
 
-// Writes the first n numbers, a space in front of each, from a place on, and answers the place behind them.
-fn write_items(numbers: &[u32], n: usize, out: &mut [u8], at: usize) -> usize
-    requires n_in_bounds { n ≤ length numbers.now }
-    requires room { at + 11 * n ≤ length out.old }
-    ensures { PutItems out.old out.new at result n numbers.now }
+// Writes numbers, a space in front of each.
+fn write_items(numbers: &[u32], out: &mut [u8]) -> usize
+    requires { 11 * length numbers.now ≤ length out.old }
+    ensures { PutItems out.old out.new 0 result (length numbers.now) numbers.now }
 {
-    let mut next = at;
-    let mut left = n;
-    while left > 0 {
-        let number = numbers[n - left];
+    let mut next = 0;
+    for number in numbers {
         out[next] = b' ';
-        next = write_decimal(number, out, next + 1);
-        left -= 1;
+        next += 1;
+        next += write_decimal(*number, &mut out[next..]);
     }
     next
 }
 
-// Writes a line, a word and the first n numbers, from a place on, and answers the place behind it.
-fn write_line(word: &[u8], numbers: &[u32], n: usize, out: &mut [u8], at: usize) -> usize
-    requires n_in_bounds { n ≤ length numbers.now }
-    requires room { at + (length word.now + (11 * n + 1)) ≤ length out.old }
-    ensures { PutLine out.old out.new at result word.now n numbers.now }
+// Writes a line, a word and numbers.
+fn write_line(word: &[u8], numbers: &[u32], out: &mut [u8]) -> usize
+    requires { length word.now + (11 * length numbers.now + 1) ≤ length out.old }
+    ensures { PutLine out.old out.new 0 result word.now (length numbers.now) numbers.now }
 {
-    let front = write_word(word, out, at);
-    let end = write_items(numbers, n, out, front);
+    let front = write_word(word, out);
+    let end = front + write_items(numbers, &mut out[front..]);
     out[end] = b'\n';
     end + 1
 }
 
-// Writes what is printed on a refusal, and answers how many bytes that is.
+// Writes what is printed on a refusal.
 pub fn write_refused(number: u32, out: &mut [u8]) -> usize
     requires { 16384 ≤ length out.old }
     ensures { Printed out.new result (refused_text number) }
 {
-    let numbers = [number];
-    write_line(b"refused", &numbers, 1, out, 0)
+    write_line(b"refused", &[number], out)
 }
 
-// Writes what is printed when the calls are done, for the first n places of the order and of the list, and answers how many bytes that is.
-pub fn write_answer(
-    n: usize,
-    order: &[u32],
-    inside: u32,
-    outside: u32,
-    visits: u32,
-    list: &[u32],
-    out: &mut [u8],
-) -> usize
-    requires n_bound { n ≤ 512 }
-    requires n_in_order { n ≤ length order.now }
-    requires n_in_list { n ≤ length list.now }
+// Writes what is printed when the calls are done.
+pub fn write_answer(order: &[u32], counts: Listed, list: &[u32], out: &mut [u8]) -> usize
+    requires order_bound { length order.now ≤ 512 }
+    requires list_bound { length list.now ≤ 512 }
     requires room { 16384 ≤ length out.old }
-    ensures { Printed out.new result (answer_text (take n order.now) inside outside visits (take n list.now)) }
+    ensures { Printed out.new result (answer_text order.now counts.inside counts.outside counts.visits list.now) }
 {
-    let counts = [inside, outside, visits];
-    let first = write_line(b"order", order, n, out, 0);
-    let second = write_line(b"count", &counts, 3, out, first);
-    write_line(b"list", list, n, out, second)
+    let counts = [counts.inside, counts.outside, counts.visits];
+    let first = write_line(b"order", order, out);
+    let second = first + write_line(b"count", &counts, &mut out[first..]);
+    second + write_line(b"list", list, &mut out[second..])
 }

@@ -7,12 +7,11 @@ use Prim.Native.Nat.{ℕ, zero, suc, ◌<◌}
 use Rattle.std.specs.Float.{nan}
 use Rattle.terms.specs.declared.Reading.{Reading}
 use Rattle.terms.specs.declared.Reading.TheVariants.{Colour, Grey, Nothing}
-use Rattle.terms.specs.declared.Given.{Given}
 use Rattle.terms.specs.declared.Making.{Making}
 use Rattle.terms.specs.Tests.{every}
 use Rattle.terms.specs.Points.{is_coordinate}
 use Rattle.terms.specs.Value.{is_finite, in_range, coordinate_of}
-use Rattle.terms.specs.Reading.{nothing, values_of, value_at, all_in_range, becomes, gives}
+use Rattle.terms.specs.Reading.{Given, nothing, values_of, value_at, all_in_range, becomes, gives}
 use Rattle.terms.specs.Refusals.{first_of, length_refusals, value_refusals}
 use Rattle.terms.specs.PointCall.{numbers_of, place_of, point_refusals, point_code, point_answer, point_after}
 use Rattle.theory.specs.Flags.{and_true, true_and, not_false}

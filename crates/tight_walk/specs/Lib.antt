@@ -1,2 +1,3 @@
-pub mod Parts
+pub mod TightBoxes
+pub mod Laws
 pub mod Shelf

@@ -1,31 +1,38 @@
--- Where the three tests say yes each value has its coordinate; where one says no the reading is out of range.
-use mathlib.Core.Path.{◌≡◌, sym, ◌∙◌}
-use mathlib.Core.Bool.{true, ◌&&◌}
-use borrow.Author.Rules.{sfits_of}
-use mir.Syntax.{w32}
-use mir.Facts.{to_z-of_z}
-use Rattle.terms.specs.declared.Reading.TheVariants.{Colour}
-use Rattle.terms.specs.Reading.{all_in_range}
-use Rattle.reading.specs.Converted.{colour_tested, colour_given, none_given}
+-- Where each value gives a coordinate they are the point; where one is refused the reading is, since it is not in range throughout.
+use Rattle.std.proofs.Common.{◌≡◌, ◌∙◌, rules, to_z, of_z, w32}
+use Rattle.terms.specs.RefusalNumbers.{handed_on}
+use Rattle.terms.specs.Tests.{every}
+use Rattle.terms.specs.Reading.{gives}
+use Rattle.reading.specs.Converted.{coordinate_made, coordinate_refused, colour_ranges, colour_given}
 use Rattle.reading.proofs.from_colour.Goals as goal
 
-pub returns-then-in_range : goal.returns-then-in_range
-returns-then-in_range c =
-    -- The three tests are the test of the reading.
-    let tested : c.in_range.result && (c.in_range-2.result && c.in_range-3.result) ≡ all_in_range (Colour c.args.colour) =
-    colour_tested _ c.in_range.ensures c.in_range-2.ensures c.in_range-3.ensures in
-    let ranges : all_in_range (Colour c.args.colour) ≡ true =
-    sym tested ∙ c.if-in_range.true in
-    colour_given
-    _
-    ranges
-    (to_z-of_z (sfits_of {w = w32} c.coordinate_of-x.type_inv) ∙ c.coordinate_of-x.ensures)
-    (to_z-of_z (sfits_of {w = w32} c.coordinate_of-y.type_inv) ∙ c.coordinate_of-y.ensures)
-    (to_z-of_z (sfits_of {w = w32} c.coordinate_of-z.type_inv) ∙ c.coordinate_of-z.ensures)
+pub returns-in_err-tested_coordinate : goal.returns-in_err-tested_coordinate
+unfolding gives every
+returns-in_err-tested_coordinate c =
+    let a = coordinate_refused _ c.in_err-tested_coordinate.ensures in
+    rw (handed_on _ c.from_residual.ensures, a.1, a.0)
+
+pub returns-in_err-tested_coordinate-2 : goal.returns-in_err-tested_coordinate-2
+unfolding gives every
+returns-in_err-tested_coordinate-2 c =
+    let a = coordinate_made _ c.in_ok-tested_coordinate.ensures in
+    let b = coordinate_refused _ c.in_err-tested_coordinate-2.ensures in
+    rw (handed_on _ c.from_residual-in_err-tested_coordinate-2.ensures, b.1, a.0, b.0)
+
+pub returns-in_err-tested_coordinate-3 : goal.returns-in_err-tested_coordinate-3
+unfolding gives every
+returns-in_err-tested_coordinate-3 c =
+    let a = coordinate_made _ c.in_ok-tested_coordinate.ensures in
+    let b = coordinate_made _ c.in_ok-tested_coordinate-2.ensures in
+    let d = coordinate_refused _ c.in_err-tested_coordinate-3.ensures in
+    rw (handed_on _ c.from_residual-in_err-tested_coordinate-3.ensures, d.1, a.0, b.0, d.0)
 
 pub returns : goal.returns
 returns c =
-    -- The three tests are the test of the reading.
-    let tested : c.in_range.result && (c.in_range-2.result && c.in_range-3.result) ≡ all_in_range (Colour c.args.colour) =
-    colour_tested _ c.in_range.ensures c.in_range-2.ensures c.in_range-3.ensures in
-    none_given _ (sym tested ∙ c.if-in_range.false)
+    let a = coordinate_made _ c.in_ok-tested_coordinate.ensures in
+    let b = coordinate_made _ c.in_ok-tested_coordinate-2.ensures in
+    let d = coordinate_made _ c.in_ok-tested_coordinate-3.ensures in
+    let x : to_z w32 (of_z w32 c.in_ok-tested_coordinate.field-0) ≡ c.in_ok-tested_coordinate.field-0 = search rules in
+    let y : to_z w32 (of_z w32 c.in_ok-tested_coordinate-2.field-0) ≡ c.in_ok-tested_coordinate-2.field-0 = search rules in
+    let z : to_z w32 (of_z w32 c.in_ok-tested_coordinate-3.field-0) ≡ c.in_ok-tested_coordinate-3.field-0 = search rules in
+    colour_given _ (colour_ranges _ a.0 b.0 d.0) (x ∙ a.1) (y ∙ b.1) (z ∙ d.1)

@@ -1,13 +1,15 @@
--- The root is a branch that can be walked, and its walk by the table of the faces is the walk of the shelf.
-use Rattle.region.specs.Ranges.{known_table}
-use Rattle.walk.specs.Shelf.{walkable_root, shelf_walked, walked_by_faces}
+-- The root is a branch in its branch box, and its walk is the walk of the shelf.
+use Rattle.descent.specs.Shelf.{rooted}
+use Rattle.walk.specs.Shelf.{root_goes, shelf_walked}
 use Rattle.walk.proofs.walk.Goals as goal
 
-pub branch-k-requires : goal.branch-k-requires
-branch-k-requires c =
-    let p = c.requires in
-    walkable_root p.rooted (known_table p.known_faces c.table_of-table.ensures) c.all_faces-live.ensures p.list_len
+pub walk_down-requires-clause-goes : goal.walk_down-requires-clause-goes
+walk_down-requires-clause-goes c =
+    let e = c.root_run.ensures in
+    root_goes (rw e.in_box (rooted c.args.shelf.now)) e.starts e.slots e.splits
 
 pub returns : goal.returns
 returns c =
-    walked_by_faces c.args.offsets.now c.args.marks.now c.table_of-table.ensures (shelf_walked c.requires.rooted.alike c.requires.list_len c.branch-k.ensures)
+    let e = c.root_run.ensures in
+    let w = rw (e.starts, e.slots, e.splits, e.in_box) at c.walk_down.ensures in
+    shelf_walked c.requires.same_k c.args.shelf.now.alike c.requires.list_len w

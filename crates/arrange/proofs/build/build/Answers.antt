@@ -1,21 +1,20 @@
 -- The filled order holds the numbers that belong, each once, and arranging makes a tree of them.
-use mathlib.Core.Path.{◌≡◌}
-use Rattle.terms.specs.Live.{is_live}
-use Rattle.terms.specs.Tree.{members}
+use Rattle.terms.specs.LentValues.{stock_of}
+use Rattle.terms.specs.Points.{belongs_to}
 use Rattle.arrange.specs.Arranged.{stock_arrangeable, arranged_tree}
 use Rattle.arrange.proofs.build.build.Goals as goal
 
+pub fill_order-requires : goal.fill_order-requires
+fill_order-requires c =
+    let bytes = c.requires.tested_points.bytes in
+    record { live_len_bound = rw bytes c.requires.tested_points.many; order_len = rw bytes c.requires.order_len }
+
 pub arrange-requires : goal.arrange-requires
 arrange-requires c =
-    -- The order is filled with the live numbers.
-    let filled : (let a = c.args in c.fill_order.new.order ≡ members (is_live a.n a.live.now) a.n) =
-    c.fill_order.ensures in
-    rw (filled) (stock_arrangeable _ c.requires.tested_points)
+    let bytes = c.requires.tested_points.bytes in
+    rw c.fill_order.ensures (rw bytes (stock_arrangeable (stock_of c.args.stock.now) c.requires.tested_points))
 
 pub returns : goal.returns
 returns c =
-    -- The order is filled with the live numbers.
-    let filled : (let a = c.args in c.fill_order.new.order ≡ members (is_live a.n a.live.now) a.n) =
-    c.fill_order.ensures in
-    let a = c.args in
-    arranged_tree (is_live a.n a.live.now) a.n (rw (filled) at c.arrange.ensures)
+    let s = stock_of c.args.stock.now in
+    arranged_tree (belongs_to s) s.n (rw (c.fill_order.ensures, c.requires.tested_points.bytes) at c.arrange.ensures)

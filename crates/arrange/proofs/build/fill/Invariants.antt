@@ -1,11 +1,6 @@
--- The invariant is what is written so far: the numbers below n that belong.
-use Prim.Native.Nat.{◌-◌}
-use Rattle.terms.specs.Points.{below}
-use Rattle.arrange.specs.Filled.{FilledTo}
+-- The invariant is what is written so far: each place before p holds its own number.
+use Rattle.arrange.specs.WrittenInPlace.{WrittenTo}
 use Rattle.arrange.proofs.build.fill.Given as goal
 
-abbrev pub invariant-loop-n : goal.invariant-loop-n
-invariant-loop-n l = FilledTo (below l.m) l.m l.order l.at l.n
-
-abbrev pub decreases-loop-n : goal.decreases-loop-n
-decreases-loop-n l = l.m - l.n
+abbrev pub invariant-loop-p : goal.invariant-loop-p
+invariant-loop-p l = WrittenTo (λ i. i) l.initial.order l.order l.p

@@ -8,6 +8,6 @@ pub returns : goal.returns
 unfolding key_of
 returns c =
     -- what is read of the points
-    let coordinate : Lifts (coord c.args.k c.args.points.now c.args.p c.args.s) =
+    let coordinate : Lifts (coord c.args.stock.now.k c.args.stock.now.points.now c.args.p c.args.s) =
     lifts _ c.requires.range in
     rw (coordinate).back (omega arith)

@@ -6,10 +6,10 @@ use Rattle.arrange.proofs.key.write_keys.Goals as goal
 
 pub key-requires : goal.key-requires
 key-requires c =
-    let l = c.loop-i in
-    rw (l.invariant.later l.i (omega arith)) (keyed_at c.requires l.i (omega arith))
+    let l = c.loop-slot in
+    rw (l.invariant.later l.slot-index (omega arith)) (keyed_at c.requires l.slot-index (omega arith))
 
 pub returns : goal.returns
 returns c =
     let b = c.args in
-    mapped_all (key_of b.k b.points.now b.s) c.loop-i.invariant c.loop-i-test.false
+    mapped_all (key_of b.stock.now.k b.stock.now.points.now b.s) c.loop-slot.invariant (omega arith)

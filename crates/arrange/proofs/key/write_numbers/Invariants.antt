@@ -1,12 +1,7 @@
 -- The invariant is what is written so far: each place before i holds the number of the key that it held.
-use Prim.Native.Nat.{◌-◌}
-use lib.ListN.{length}
 use Rattle.arrange.specs.WrittenInPlace.{MappedTo}
 use Rattle.arrange.specs.Placed.{number_of}
 use Rattle.arrange.proofs.key.write_numbers.Given as goal
 
-abbrev pub invariant-loop-i : goal.invariant-loop-i
-invariant-loop-i l = MappedTo number_of l.initial.run l.run l.i
-
-abbrev pub decreases-loop-i : goal.decreases-loop-i
-decreases-loop-i l = length l.initial.run - l.i
+abbrev pub invariant-loop-slot : goal.invariant-loop-slot
+invariant-loop-slot l = MappedTo number_of l.initial.run l.run l.slot-index

@@ -1,18 +1,19 @@
-use mathlib.Core.Path.{sym, ◌∙◌}
-use native.Mathlib.Omega.{arith}
+use Rattle.std.proofs.Common.{◌≡◌, refl, ap, ◌∙◌, Bool, List, ℕ, [], ◌∷◌, ◌&&◌, rules, length}
+use Rattle.std.specs.List.{list_all}
+use Rattle.std.proofs.lemmas.Iterator.{YieldsList-from_slice}
+use Rattle.std.proofs.lemmas.Iterator.Search.{all_from_yields_List}
+use Rattle.terms.specs.Tests.{every}
 use Rattle.terms.specs.Live.{is_live}
-use Rattle.theory.specs.Flags.{contra, not_true}
-use Rattle.theory.specs.Counting.{every_at, at_every}
 use Rattle.arrange.proofs.live.all_live.Goals as goal
 
-pub returns-then-not-is_live : goal.returns-then-not-is_live
-returns-then-not-is_live c =
-    let l = c.loop-i in
-    let a = c.args in
-    let no = sym c.is_live.ensures ∙ not_true _ c.if-not-is_live.true-raw in
-    sym (contra (λ e. every_at (is_live a.n a.live.now) 0 a.order.now e l.i (omega arith)) no)
+-- The library's word for it.
+all_is_every : (test : ℕ → Bool) (xs : List ℕ) → list_all test xs ≡ every test xs
+unfolding every
+all_is_every test [] = refl
+all_is_every test (x ∷ xs) = ap (λ (t : Bool). test x && t) (all_is_every test xs)
 
 pub returns : goal.returns
 returns c =
-    let a = c.args in
-    sym (at_every (is_live a.n a.live.now) 0 a.order.now (λ j l. c.loop-i.invariant.2 j (omega arith)))
+    let test : ℕ → Bool = is_live (length c.args.live.now) c.args.live.now in
+    all_from_yields_List test _ _ _ c.all.ensures.ran (YieldsList-from_slice c.args.order.now cc) (λ x b q k. search rules)
+    ∙ all_is_every test c.args.order.now

@@ -1,25 +1,26 @@
-use mathlib.Core.Path.{refl}
-use native.Mathlib.Omega.{arith}
+-- Nothing is counted at first, and each turn adds the faces of one region more.
+use Rattle.std.proofs.Common.{refl, arith}
 use Rattle.whole.specs.IndexedTotal.{total_to}
 use Rattle.whole.proofs.IndexedTotal.{total_most, total_next}
 use Rattle.terms.specs.RegionFaces.{faces_in}
 use Rattle.hornherder.proofs.list_regions.face_total.Goals as goal
 
-pub loop-r-init : goal.loop-r-init
+pub loop-count-init : goal.loop-count-init
 unfolding total_to
-loop-r-init c = (omega arith, refl, refl)
+loop-count-init c = refl
 
 pub overflow_add-total : goal.overflow_add-total
 overflow_add-total c =
-    let l = c.loop-r in
+    let l = c.loop-count in
+    let i = l.count-index in
     omega (
       arith,
-      l.invariant.2,
-      total_most l.r 32 (faces_in c.args.face_counts.now) (λ i m. c.requires.by_index i (omega arith)),
-      c.requires.by_index l.r (omega arith),
+      l.invariant,
+      total_most i 32 (faces_in c.args.face_counts.now) (λ r m. c.requires.by_index r (omega arith)),
+      c.requires.by_index i c.loop-count-test.true,
     )
 
-pub loop-r-preserved : goal.loop-r-preserved
-loop-r-preserved c =
-    let l = c.loop-r in
-    (omega arith, l.invariant.1, omega (arith, l.invariant.2, total_next l.r (faces_in c.args.face_counts.now)))
+pub loop-count-preserved : goal.loop-count-preserved
+loop-count-preserved c =
+    let l = c.loop-count in
+    omega (arith, l.invariant, total_next l.count-index (faces_in c.args.face_counts.now))

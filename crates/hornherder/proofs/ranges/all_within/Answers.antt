@@ -1,30 +1,18 @@
-use mathlib.Core.Path.{refl, sym, ◌∙◌}
-use borrow.Author.Rules.{rules}
-use native.Mathlib.Omega.{arith}
-use lib.ListN.{get_or}
-use lib.IntN.{pos}
-use mir.Syntax.{w32}
-use mir.Val.{SFits}
-use mir.Facts.{to_z-of_z}
+-- One number more is asked by the two comparisons that `between` makes, as the order's laws say.
+use Rattle.std.proofs.Common.{refl}
 use Rattle.terms.specs.Tests.{every}
-use Rattle.hornherder.specs.Ranges.{through_passed, through_failed}
+use Rattle.theory.specs.Counting.{every_next}
+use Rattle.hornherder.specs.Between.{between}
 use Rattle.hornherder.proofs.ranges.all_within.Goals as goal
-use Rattle.hornherder.proofs.ranges.all_within.Goals.{else-not-is_within, then-not-is_within}
 
-pub loop-i-init : goal.loop-i-init
+pub loop-x-init : goal.loop-x-init
 unfolding every
-loop-i-init c = (omega arith, refl, record { so_far = refl })
+loop-x-init g c = refl
 
-pub loop-i-preserved : goal.loop-i-preserved
-loop-i-preserved c =
-    let i = c.loop-i.invariant in
-    let x = get_or c.args.numbers.now c.loop-i.i (pos 0) in
-    let fit : SFits w32 x = search rules in
-    let e = rw (to_z-of_z fit) at c.is_within.ensures in (
-      omega arith,
-      i.1,
-      elim c.if-not-is_within.branch [
-        | then-not-is_within w ↦ rw w.all-is (through_failed (pos 0) i.2 (omega arith) (sym e ∙ w.if-not-is_within.true))
-        | else-not-is_within w ↦ rw w.all-is (through_passed (pos 0) i.2 (omega arith) (sym e ∙ w.if-not-is_within.false))
-      ],
-    )
+pub loop-x-preserved : goal.loop-x-preserved
+loop-x-preserved g c =
+    let a = c.args in
+    let x = c.x-item.result in
+    let same = g.met.T.Ord.matches_partial_cmp in
+    rw (every_next (between g.T.Ord.cmp a.least a.greatest) x a.numbers.now c.loop-x.x-index c.loop-x-test.true, ← c.x-item.is, ← c.loop-x.invariant)
+    (rw (c.le.ensures, c.le-in-loop-x.ensures, same a.least x, same x a.greatest) refl)

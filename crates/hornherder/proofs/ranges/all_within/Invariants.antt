@@ -1,14 +1,8 @@
--- After i turns `all` says whether the first i numbers lie in the range: a number that does not makes it no, any other keeps it.
-use mathlib.Core.Path.{◌≡◌}
-use Prim.Native.Nat.{◌≤◌, ◌-◌}
-use lib.ListN.{length}
-use Rattle.terms.specs.Points.{within}
-use Rattle.hornherder.specs.Ranges.{Through}
+-- After i turns `all` says whether the first i numbers lie in the range.
+use Rattle.std.proofs.Common.{◌≡◌, take}
+use Rattle.terms.specs.Tests.{every}
+use Rattle.hornherder.specs.Between.{between}
 use Rattle.hornherder.proofs.ranges.all_within.Given as goal
 
-abbrev pub invariant-loop-i : goal.invariant-loop-i
-invariant-loop-i l =
-    (l.i ≤ length l.numbers) × (l.i-end ≡ length l.numbers) × Through (within l.least l.greatest) l.numbers l.i l.all
-
-abbrev pub decreases-loop-i : goal.decreases-loop-i
-decreases-loop-i l = length l.numbers - l.i
+abbrev pub invariant-loop-x : goal.invariant-loop-x
+invariant-loop-x g l = l.all ≡ every (between g.T.Ord.cmp l.least l.greatest) (take l.x-index l.numbers)

@@ -6,5 +6,5 @@ use Rattle.region.proofs.boxes.right_box.Goals as goal
 
 pub returns : goal.returns
 returns c =
-    let e = rw (to_z-of_z c.ranges.x) at c.replaced-next.ensures in
-    rw e (right_rows c.args.rows c.args.s c.args.x (search rules))
+    let next = rw (to_z-of_z c.ranges.x) at c.replaced-low.ensures in
+    rw next (right_rows c.args.rows c.args.s c.args.x (search rules))

@@ -1,33 +1,39 @@
-use mathlib.Core.Path.{refl}
-use native.Mathlib.Omega.{arith}
-use lib.ListN.{get_or}
-use lib.IntN.{pos}
+use mathlib.Core.Path.{◌≡◌, refl}
+use Prim.Native.Nat.{◌<◌}
+use lib.ListN.{length}
+use Rattle.std.proofs.Common.{length-append, length-drop}
+use Rattle.std.proofs.lemmas.List.{length-take}
 use borrow.Author.Rules.{rules}
-use mir.Syntax.{w32}
-use mir.Val.{SFits}
-use mir.Facts.{to_z-of_z}
+use native.Mathlib.Omega.{arith}
 use Rattle.region.specs.Table.{tabled_none, row_next, tabled_all}
-use Rattle.region.specs.Ranges.{has_normal}
+use Rattle.region.specs.Ranges.{has_normal, known_table}
 use Rattle.region.proofs.faces.table_of.Goals as goal
 
 pub loop-i-init : goal.loop-i-init
 loop-i-init c = (omega arith, tabled_none _ _ _ refl)
 
-pub normal_at-row-requires : goal.normal_at-row-requires
-normal_at-row-requires c =
-    has_normal {normals = c.args.normals.now} c.requires.k_bound c.requires.normals_len c.loop-i-test.true
+pub row_of-row-requires : goal.row_of-row-requires
+row_of-row-requires c =
+    let w = c.args.faces.now.known in
+    has_normal {normals = c.args.faces.now.normals.now} w.few w.tested.normals_size c.loop-i-test.true
 
 pub loop-i-preserved : goal.loop-i-preserved
 loop-i-preserved c =
-    let l = c.loop-i-test.true in
-    let first : SFits w32 (get_or c.normal_at-row.result 0 (pos 0)) = search rules in
-    let second : SFits w32 (get_or c.normal_at-row.result 1 (pos 0)) = search rules in
-    let third : SFits w32 (get_or c.normal_at-row.result 2 (pos 0)) = search rules in
-    let fourth : SFits w32 (get_or c.normal_at-row.result 3 (pos 0)) = search rules in (
-      omega (arith, l),
-      rw (to_z-of_z first, to_z-of_z second, to_z-of_z third, to_z-of_z fourth)
-          (row_next c.args.normals.now c.loop-i.i (omega (arith, l, c.requires.h_bound)) c.normal_at-row.result c.normal_at-row.ensures c.loop-i.invariant.1),
+    let faces = c.args.faces.now in
+    let i = c.loop-i.i in
+    let four : length c.row_of-row.result ≡ 4 = search rules in
+    let known : i < 32 = omega (arith, faces.known.tested.many) in
+    let long : length c.loop-i.rows ≡ 128 = search rules in (
+      omega arith,
+      rw c.copy_from_slice.ensures.after
+          (row_next faces.normals.now i known c.row_of-row.result c.row_of-row.ensures four c.loop-i.rows _ c.loop-i.invariant.1 (simp (length-append, length-take, length-drop) (omega arith))),
     )
 
+pub invariant_of-result : goal.invariant_of-result
+invariant_of-result c =
+    let w = c.args.faces.now.known in
+    record { known = known_table w (tabled_all w.few c.loop-i.invariant.1 (omega (arith, c.loop-i-test.false))) }
+
 pub returns : goal.returns
-returns c = tabled_all c.requires.k_bound c.loop-i.invariant.1 (omega (arith, c.loop-i-test.false))
+returns c =
+    record { k_is = refl; rows = tabled_all c.args.faces.now.known.few c.loop-i.invariant.1 (omega (arith, c.loop-i-test.false)); offsets_are = refl; marks_are = refl }

@@ -1,60 +1,62 @@
-use mathlib.Core.Path.{◌≡◌}
-use native.Mathlib.Omega.{arith}
-use lib.Seq.{slice, slice_empty, length-slice}
+use Rattle.std.proofs.Common.{◌≡◌, refl, length, take_all, arith}
+use Rattle.std.proofs.Math.Seq.{slice_empty}
 use Rattle.text.specs.DecimalLaws.{value_from}
 use Rattle.text.specs.DigitRuns.{value_ten, turn}
 use Rattle.text.proofs.number.digits_value.Goals as goal
 
+pub loop-digit-init : goal.loop-digit-init
+loop-digit-init c =
+    let digits = c.args.digits.now in
+    rw (take_all (length digits) digits (omega arith)) (c.requires.digits, refl)
+
 pub overflow_mul-value : goal.overflow_mul-value
 overflow_mul-value c =
-    let args = c.args in
-    let loop = c.loop-i in
-    -- The digit at i, read.
+    let digits = c.args.digits.now in
+    let loop = c.loop-digit in
+    -- The digit at the index, read.
     let next =
-    turn args.text.now loop.i args.e loop.value (value_from 0 (slice args.at args.e args.text.now))
-    (omega arith) (omega arith) loop.invariant.2 loop.invariant.3 in
+    turn digits loop.digit-index (length digits) loop.value (value_from 0 digits)
+    (omega arith) (omega arith) loop.invariant.0 loop.invariant.1 in
     -- What all the digits say.
-    let small =
-    value_ten c.requires.digits (rw (length-slice args.at args.e args.text.now (omega arith)) (omega arith)) in
+    let small = value_ten c.requires.digits c.requires.length_bound in
     omega (arith, next.most, small)
 
-pub overflow_sub-value : goal.overflow_sub-value
-overflow_sub-value c =
-    let args = c.args in
-    let loop = c.loop-i in
-    -- The digit at i, read.
+pub overflow_sub-digit : goal.overflow_sub-digit
+overflow_sub-digit c =
+    let digits = c.args.digits.now in
+    let loop = c.loop-digit in
+    -- The digit at the index, read.
     let next =
-    turn args.text.now loop.i args.e loop.value (value_from 0 (slice args.at args.e args.text.now))
-    (omega arith) (omega arith) loop.invariant.2 loop.invariant.3 in
+    turn digits loop.digit-index (length digits) loop.value (value_from 0 digits)
+    (omega arith) (omega arith) loop.invariant.0 loop.invariant.1 in
     next.low
 
 pub overflow_add-value : goal.overflow_add-value
 overflow_add-value c =
-    let args = c.args in
-    let loop = c.loop-i in
-    -- The digit at i, read.
+    let digits = c.args.digits.now in
+    let loop = c.loop-digit in
+    -- The digit at the index, read.
     let next =
-    turn args.text.now loop.i args.e loop.value (value_from 0 (slice args.at args.e args.text.now))
-    (omega arith) (omega arith) loop.invariant.2 loop.invariant.3 in
+    turn digits loop.digit-index (length digits) loop.value (value_from 0 digits)
+    (omega arith) (omega arith) loop.invariant.0 loop.invariant.1 in
     -- What all the digits say.
-    let small =
-    value_ten c.requires.digits (rw (length-slice args.at args.e args.text.now (omega arith)) (omega arith)) in
+    let small = value_ten c.requires.digits c.requires.length_bound in
     omega (arith, next.most, small)
 
-pub loop-i-preserved : goal.loop-i-preserved
-loop-i-preserved c =
-    let args = c.args in
-    let loop = c.loop-i in
-    -- The digit at i, read.
+pub loop-digit-preserved : goal.loop-digit-preserved
+loop-digit-preserved c =
+    let digits = c.args.digits.now in
+    let loop = c.loop-digit in
+    -- The digit at the index, read.
     let next =
-    turn args.text.now loop.i args.e loop.value (value_from 0 (slice args.at args.e args.text.now))
-    (omega arith) (omega arith) loop.invariant.2 loop.invariant.3 in
-    (omega arith, omega arith, next.digits, next.says)
+    turn digits loop.digit-index (length digits) loop.value (value_from 0 digits)
+    (omega arith) (omega arith) loop.invariant.0 loop.invariant.1 in
+    (next.digits, rw c.from.ensures next.says)
 
 pub returns : goal.returns
 unfolding value_from
 returns c =
-    let loop = c.loop-i in
-    let args = c.args in
-    let e : loop.i ≡ args.e = omega arith in
-    rw (e, slice_empty args.e args.text.now) at loop.invariant.3
+    let loop = c.loop-digit in
+    let digits = c.args.digits.now in
+    let e : loop.digit-index ≡ length digits = omega arith in
+    rw (e, slice_empty (length digits) digits) at loop.invariant.1

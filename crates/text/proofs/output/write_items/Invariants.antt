@@ -1,10 +1,6 @@
--- The invariant: all but the last `left` numbers were put.
-use Prim.Native.Nat.{◌-◌, ◌≤◌}
+-- The invariant: the numbers in front of the index were put.
 use Rattle.text.specs.Printing.{PutItems}
 use Rattle.text.proofs.output.write_items.Given as goal
 
-abbrev pub invariant-loop-left : goal.invariant-loop-left
-invariant-loop-left l = (l.left ≤ l.n) × PutItems l.initial.out l.out l.at l.next (l.n - l.left) l.numbers
-
-abbrev pub decreases-loop-left : goal.decreases-loop-left
-decreases-loop-left l = l.left
+abbrev pub invariant-loop-number : goal.invariant-loop-number
+invariant-loop-number l = PutItems l.fn.out l.out 0 l.next l.number-index l.numbers

@@ -1,8 +1,10 @@
 -- The word, the numbers, the newline: put one behind the other.
-use native.Mathlib.Omega.{arith}
-use Rattle.text.specs.Printing.{put_line}
+use Rattle.std.proofs.Common.{arith}
+use Rattle.text.specs.Printing.{put_line, items_part}
 use Rattle.text.proofs.output.write_line.Goals as goal
 
 pub returns : goal.returns
 returns c =
-    put_line c.write_word-front.ensures c.write_items-end.ensures (omega (arith, c.write_word-front.ensures.place, c.write_items-end.ensures.short))
+    let front = c.write_word-front in
+    let items = items_part front.new.out front.result (omega (arith, front.ensures.place, front.ensures.size)) c.write_items.ensures in
+    put_line front.ensures items (omega (arith, front.ensures.place, items.short))

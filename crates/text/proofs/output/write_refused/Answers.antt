@@ -1,5 +1,5 @@
 -- One line, from the first place on.
-use native.Mathlib.Omega.{arith}
+use Rattle.std.proofs.Common.{arith}
 use Rattle.text.specs.Answer.{refused_text}
 use Rattle.text.specs.Printing.{printed_of}
 use Rattle.text.proofs.output.write_refused.Goals as goal

@@ -4,7 +4,7 @@ use Prim.Native.Nat.{◌+◌}
 use Rattle.walk.proofs.parts.+branch_node.Given as goal
 
 abbrev pub decreases-node : goal.decreases-node
-decreases-node l = l.run.length + l.run.length
+decreases-node g l = l.run.length + l.run.length
 
 abbrev pub decreases-branch : goal.decreases-branch
-decreases-branch l = l.run.length + l.run.length + 1
+decreases-branch g l = l.run.length + l.run.length + 1
