@@ -18,7 +18,8 @@ use crate::live::all_live;
 use terms::axis::next_axis;
 use terms::lent::Stock;
 
-// The bounds of a branch: for each dimension the least key allowed, and the first not allowed.
+// The bounds of a branch: for each dimension the least key allowed, and the first not allowed. A dimension below 4 is asked for where one is named: a type of
+// such numbers would be made of a plain one at each call.
 #[derive(Clone, Copy)]
 struct Bounds {
     least: [u32; 4],
@@ -65,7 +66,7 @@ impl Bounds {
     }
 }
 
-// A run of slots that is looked at as a branch, whose node splits on dimension s. The stock was tested and no slot holds a dead number, so that a
+// A run of slots that is looked at as a branch, whose node splits on dimension s. Its slots are named by their numbers, and that there is such a slot is asked. The stock was tested and no slot holds a dead number, so that a
 // number of the run that is below n has a key on each dimension.
 #[derive(Clone, Copy)]
 struct Branch<'a> {
@@ -81,8 +82,8 @@ impl<'a> Branch<'a> {
     ghost use Rattle.arrange.specs.Looked.{slot_allowed, slots_allowed, is_answer, LeftOf, RightOf};
 
     // Whether the numbers in three slots are below n, each with its key on every dimension within the bounds.
-    // The turns are four at most, a constant, so that a compiler can lay them out one after another, and where it is called: out of line the whole
-    // check takes a third more time.
+    // The turns are four at most, a constant (an index, since two rows of bounds and three keys go side by side), so that a compiler can lay them out one
+    // after another, and where it is called: out of line the whole check takes a third more time.
     #[inline(always)]
     fn three_allowed(&self, bounds: &Bounds, i: usize, j: usize, h: usize) -> bool
         requires i_in_bounds { i < length self.now.order.now }

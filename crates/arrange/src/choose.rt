@@ -2,6 +2,8 @@
 // A part of the run that holds it is narrowed by passes; what the pivots are decides only how soon it is small. Every other pivot is the
 // middle of the range of those that are left, so that no run takes more than 64 passes. The others come from the part's numbers: from a
 // sample of them, or, where the passes have narrowed the part too little, from them all by counting, which finds the number itself.
+// The part's ends a and e, and the ends lo and top of the pivots' range, are handed over as the numbers that they are: each step moves one of the four, and
+// what it keeps is said of that one. That the numbers are few is asked where they are counted.
 ghost use Rattle.std.specs.Prelude.{◌+◌, ◌*◌, ◌<◌, ◌≤◌, length};
 ghost use Rattle.arrange.specs.Parted.{Parted};
 ghost use Rattle.arrange.specs.LeastFirst.{LeastFirst};
@@ -121,7 +123,7 @@ fn next_pivot(part: &[u32], rank: usize, lo: u32, top: u32, pass: u32, due: usiz
     pivot.clamp(lo + 1, top)
 }
 
-// Puts the least numbers of the places from a to e at a and after it, up to the place m.
+// Puts the least numbers of the places from a to e at a and after it, up to the place m. The count is of ranks, and no place is read by it here.
 fn finish(run: &mut [u32], a: usize, e: usize, m: usize)
     requires { Narrowed run.old run.old m a e }
     ensures { Chosen run.old run.new m }

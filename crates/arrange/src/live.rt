@@ -1,4 +1,5 @@
 // The shelf by its live bytes, one for each number: the order filled with the live numbers, and whether the slots hold live numbers only.
+// That the bytes are few is asked where a number is made of a place.
 ghost use Rattle.std.specs.Prelude.{◌≡◌, ◌≤◌, length};
 ghost use Rattle.terms.specs.Tests.{every};
 ghost use Rattle.terms.specs.Live.{is_live, live_count};

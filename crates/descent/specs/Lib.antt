@@ -5,6 +5,7 @@ pub mod Standing
 pub mod Boxed
 pub mod Faced
 pub mod Runs
+pub mod Joined
 pub mod SlotsBox
 pub mod NumbersBox
 pub mod Root

@@ -1,53 +1,22 @@
 -- The root box slot by slot. In each dimension the least so far is at most every coordinate so far, and at least all that is at most these; so it is
 -- the least of them. The greatest alike, in the other order.
-use Rattle.std.specs.Prelude.{◌≡◌, refl, List, ℕ, ◌+◌, ◌≤◌, ◌<◌, length, get_or, set, replicate, ℤ, pos, negsuc, ◌≤ℤ◌}
-use Rattle.std.proofs.Common.{◌∙◌, not-suc-le-zero, arith, length-set, get_or-set_other, below_more}
+use Rattle.std.specs.Prelude.{◌≡◌, List, ℕ, ◌+◌, ◌≤◌, ◌<◌, length, get_or, replicate, ℤ, pos, negsuc, ◌≤ℤ◌}
+use Rattle.std.proofs.Common.{not-suc-le-zero, arith, below_more}
 use Rattle.std.proofs.lemmas.List.{get_or-replicate}
-use Rattle.whole.specs.Order.{lesser, greater}
 use Rattle.whole.specs.Choices.{AtLeast, Choice}
 use Rattle.whole.proofs.Choices.{least_choice, greatest_choice}
 use Rattle.terms.specs.Points.{coord, lone}
 use Rattle.terms.specs.Box.{Box, root_box}
-use Rattle.theory.specs.Stores.{store_next}
 use Rattle.theory.specs.Tested.{Between}
-use Rattle.theory.specs.Boxes.{Alike}
+use Rattle.theory.specs.Boxes.{Alike, dot}
 use Rattle.theory.specs.BoxLaws.{held_root}
 use Rattle.theory.specs.RootBoxOfSame.{root_between}
 use Rattle.descent.specs.Standing.{Known}
+use Rattle.descent.specs.Joined.{Joined}
 
 -- Where there is a slot, the box is the root box of the slots.
 pub record SlotsBoxed (k : ℕ) (points : List ℤ) (order : List ℕ) (b : Box) : Type 0 where
   pub alike : 0 < length order → Alike k b (root_box (coord k points) order)
-
--- Each row has its four places.
-pub record Rows (low high : List ℤ) : Type 0 where
-  pub low_places : 4 ≤ length low
-  pub high_places : 4 ≤ length high
-
--- The rows after the point x was taken in.
-pub record Widened (low high x next_low next_high : List ℤ) : Type 0 where
-  pub rows : Rows next_low next_high
-  pub lows : (d : ℕ) → d < 4 → lone next_low d ≡ lesser (lone low d) (lone x d)
-  pub highs : (d : ℕ) → d < 4 → lone next_high d ≡ greater (lone high d) (lone x d)
-
--- One row on the way: the places before d have what is chosen of the old number and the point's, the others have the old.
-pub record RowTo (pick : ℤ → ℤ → ℤ) (old x : List ℤ) (d : ℕ) (row : List ℤ) : Type 0 where
-  pub wide : 4 ≤ length row
-  pub chosen : (e : ℕ) → e < d → lone row e ≡ pick (lone old e) (lone x e)
-  pub kept : (e : ℕ) → d ≤ e → lone row e ≡ lone old e
-
-pub row_none : {pick : ℤ → ℤ → ℤ} {old x : List ℤ} → 4 ≤ length old → RowTo pick old x 0 old
-row_none wide = record { wide = wide; chosen = λ e l. absurd (not-suc-le-zero l); kept = λ e l. refl }
-
-pub row_next : {pick : ℤ → ℤ → ℤ} {old x : List ℤ} {d : ℕ} {row : List ℤ} → d < 4 → RowTo pick old x d row
-    → RowTo pick old x (d + 1) (set row d (pick (lone row d) (lone x d)))
-row_next {pick} {old} {x} {d} {row} l r =
-    let v : ℤ = pick (lone row d) (lone x d) in
-    record {
-      wide = omega (arith, length-set row d v, r.wide);
-      chosen = store_next (λ e y. y ≡ pick (lone old e) (lone x e)) (pos 0) row d v (omega (arith, r.wide)) r.chosen (rw (r.kept d (omega arith)));
-      kept = λ e m. get_or-set_other row d e v (pos 0) (omega arith) ∙ r.kept e (omega arith);
-    }
 
 -- x comes first of the start and the first i values: before each of the values, and after all that come before these and the start.
 pub record Foremost (le : ℤ → ℤ → Type 0) (value : ℕ → ℤ) (start : ℤ) (i : ℕ) (x : ℤ) : Type 0 where
@@ -86,23 +55,22 @@ module _ {k : ℕ} {points : List ℤ} {order : List ℕ} (known : Known k point
 
 -- The rows after the first i slots. No coordinate is above the start of the low row, nor below that of the high row.
 pub record Spanned (k : ℕ) (points : List ℤ) (order : List ℕ) (i : ℕ) (low high : List ℤ) : Type 0 where
-  pub rows : Rows low high
   pub lows : (d : ℕ) → d < k → Foremost ◌≤ℤ◌ (λ j. coord k points (get_or order j 0) d) (pos 32767) i (lone low d)
   pub highs : (d : ℕ) → d < k → Foremost AtLeast (λ j. coord k points (get_or order j 0) d) (negsuc 32767) i (lone high d)
 
 module _ {k : ℕ} {points : List ℤ} {order : List ℕ} where
   pub spanned_none : k ≤ 4 → Spanned k points order 0 (replicate 4 (pos 32767)) (replicate 4 (negsuc 32767))
   spanned_none few = record {
-    rows = record { low_places = omega arith; high_places = omega arith };
     lows = λ d l. rw (get_or-replicate 4 d (pos 32767) (pos 0) (omega arith)) foremost_none;
     highs = λ d l. rw (get_or-replicate 4 d (negsuc 32767) (pos 0) (omega arith)) foremost_none;
   }
 
-  -- The next slot's point is taken in.
-  pub spanned_more : {i : ℕ} {low high x next_low next_high : List ℤ} → k ≤ 4 → Spanned k points order i low high
-      → ((d : ℕ) → d < k → lone x d ≡ coord k points (get_or order i 0) d) → Widened low high x next_low next_high → Spanned k points order (i + 1) next_low next_high
+  -- The next slot's point is taken in, as a box of which it is both corners.
+  pub spanned_more : {i : ℕ} {low high next_low next_high : List ℤ} {x : ℕ → ℤ} → k ≤ 4 → Spanned k points order i low high
+      → ((d : ℕ) → d < k → x d ≡ coord k points (get_or order i 0) d)
+      → Joined (record { low = lone low; high = lone high }) (dot x) (record { low = lone next_low; high = lone next_high })
+      → Spanned k points order (i + 1) next_low next_high
   spanned_more few s same w = record {
-    rows = w.rows;
     lows = λ d l. rw (w.lows d (omega arith), same d l) (foremost_more least_choice (s.lows d l));
     highs = λ d l. rw (w.highs d (omega arith), same d l) (foremost_more greatest_choice (s.highs d l));
   }

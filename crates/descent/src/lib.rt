@@ -2,9 +2,11 @@
 // root box.
 #![tactic(auto)]
 
+pub mod joined;
 pub mod numbers_box;
 pub mod points;
 pub mod root;
 pub mod runs;
 pub mod shelf;
+pub mod slots;
 pub mod slots_box;

@@ -19,7 +19,7 @@ struct Lanes {
 }
 
 // Deals count coordinates from place `from` on, the first of them to lane 0. The loop knows nothing of dimensions, so a full round is a few vector
-// instructions.
+// instructions. Both rows of lanes go by the place of the coordinate, where a zip of three would say no more.
 fn deal(points: &[i32], from: usize, count: usize, lanes: Lanes) -> Lanes
     requires from_value { from % 24 ≡ 0 }
     requires count_bound { count ≤ 24 }
@@ -56,6 +56,7 @@ fn deal_all(points: &[i32]) -> Lanes
 }
 
 // The root box of n numbers, if there are any: in each dimension the least and the greatest coordinate, put together from the lanes of that dimension.
+// An index, since a lane's number says its dimension.
 pub fn numbers_box(k: usize, n: usize, points: &[i32]) -> CornerRows
     requires { NumbersKnown k n points.now }
     ensures { SlotsBoxed k points.now (rising 0 n) (box_of result) }

@@ -1,4 +1,5 @@
-// Reading the lent points: a whole point, one coordinate of a point, and the comparison of two numbers.
+// Reading the lent points: a whole point, one coordinate of a point, and the comparison of two numbers. A number's point is no value before it is read, so
+// each function asks that the number has one.
 ghost use Rattle.std.specs.Prelude.{◌≡◌, ◌<◌};
 ghost use Rattle.terms.specs.Points.{coord};
 ghost use Rattle.terms.specs.Before as words;

@@ -20,7 +20,7 @@ pub fn root_box(k: usize, n: usize, points: &[i32], order: &[u32]) -> CornerRows
     slots_box(k, points, order)
 }
 
-// The shelf that the slots of n numbers are, with its root box.
+// The shelf that the slots of n numbers are, with its root box. It takes k, n and the points alone, as `root_box` does, since no live byte is read.
 pub fn shelf_of<'a>(k: usize, n: usize, points: &'a [i32], order: &'a [u32]) -> Shelf<'a>
     requires { Shelved k n points.now order.now }
     ensures { ShelfOf k points.now order.now result }

@@ -5,12 +5,11 @@ use Rattle.terms.specs.Lent.{Stock, Order, Faces, faces_of}
 use Rattle.terms.specs.Points.{slots_of}
 use Rattle.terms.specs.Tree.{shelf_run, is_shelf}
 use Rattle.theory.specs.StockNumbers.{stock_few}
-use Rattle.theory.specs.Tested.{TestedPoints, TestedFaces}
+use Rattle.theory.specs.Tested as facts
+use Rattle.theory.specs.Tested.{TestedPoints}
 use Rattle.terms.specs.declared.lent.Faces as code_faces
-use Rattle.terms.specs.Region.{region}
-use Rattle.region.specs.declared.lent.LentFaces.{LentFaces}
+use Rattle.region.specs.declared.tested.TestedFaces.{TestedFaces}
 use Rattle.region.specs.Ranges.{KnownFaces}
-use Rattle.region.specs.Told.{region_of}
 use Rattle.descent.specs.Root.{Shelved}
 
 module _ (s : Stock) (o : Order) {run : List ℕ} (is : run ≡ shelf_run s o) where
@@ -27,16 +26,12 @@ module _ (s : Stock) (o : Order) {run : List ℕ} (is : run ≡ shelf_run s o) w
   run_few tested room = omega (arith, run_length room, stock_few s, tested.many)
 
 -- Faces that were tested are known.
-pub faces_known : (k : ℕ) (f : Faces) → k ≤ 4 → TestedFaces k f → KnownFaces k (faces_of f.normals f.offsets f.marks)
+pub faces_known : (k : ℕ) (f : Faces) → k ≤ 4 → facts.TestedFaces k f → KnownFaces k (faces_of f.normals f.offsets f.marks)
 faces_known k f few faced = rw faced.offsets_size (record { few = few; tested = faced })
 
 -- The value has k and the lent slices of these faces.
-pub record FacesAs (k : ℕ) (f : code_faces.Faces) (t : LentFaces) : Type 0 where
+pub record FacesAs (k : ℕ) (f : code_faces.Faces) (t : TestedFaces) : Type 0 where
   pub k_is : t.k ≡ k
   pub normals_are : t.normals.now ≡ f.normals.now
   pub offsets_are : t.offsets.now ≡ f.offsets.now
   pub marks_are : t.marks.now ≡ f.marks.now
-
--- Their region is that of the lent faces.
-pub region_as : {k : ℕ} {f : code_faces.Faces} {t : LentFaces} → FacesAs k f t → region_of t ≡ region k (faces_of f.normals.now f.offsets.now f.marks.now)
-region_as w = let a = w.k_is in let b = w.normals_are in let c = w.offsets_are in let d = w.marks_are in cc

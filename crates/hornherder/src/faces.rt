@@ -4,15 +4,15 @@ ghost use Rattle.terms.specs.Lent.{faces_of};
 ghost use Rattle.region.specs.Ranges.{KnownFaces};
 ghost use Rattle.hornherder.specs.TestedRun.{FacesAs};
 
-use region::lent::LentFaces;
+use region::tested::TestedFaces;
 use terms::lent::Faces;
 
 // The lent faces as a value whose type says that they were tested, for points of k coordinates.
-pub fn tested_faces<'a>(k: usize, faces: &Faces<'a>) -> LentFaces<'a>
+pub fn tested_faces<'a>(k: usize, faces: &Faces<'a>) -> TestedFaces<'a>
     requires { KnownFaces k (faces_of faces.now.normals.now faces.now.offsets.now faces.now.marks.now) }
     ensures { FacesAs k faces.now result }
 {
-    LentFaces {
+    TestedFaces {
         k,
         normals: faces.normals,
         offsets: faces.offsets,

@@ -71,6 +71,7 @@ fn test_list_regions<'a>(
 }
 
 // 4 where the order is short of its slots, the list buffer of as many places a region, or the counts buffer of three a region.
+// Lengths alone, since the buffers are lent to the call to write.
 fn test_region_room(
     slots: usize,
     regions: usize,
@@ -102,7 +103,7 @@ fn test_region_faces(k: usize, regions: &Regions) -> Result<(), Refusal>
     test_face_slices(k, &joined)
 }
 
-// How many faces the regions have together, once each has at most 32.
+// How many faces the regions have together, once each has at most 32. A `for`, since of a `sum` the check knows no bound from that of each.
 fn face_total(face_counts: &[u32]) -> usize
     requires few { length face_counts.now ≤ 64 }
     requires by_index { (r : ℕ) → r < length face_counts.now → faces_in face_counts.now r ≤ 32 }

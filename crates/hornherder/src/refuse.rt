@@ -117,7 +117,8 @@ pub fn test_face_counts(face_counts: &[u32]) -> Result<(), Refusal>
     Ok(())
 }
 
-// 7 where the normals are not k times h, or the offsets not h.
+// 7 where the normals are not k times h, or the offsets not h. This test and the next two take the parts that they look at, so that what each says of
+// its number names no other.
 fn test_face_lengths(k: usize, h: usize, normals: &[i32], offsets: &[i64]) -> Result<(), Refusal>
     ensures { First (face_length_refusals k h normals.now offsets.now) (code_of result) }
 {

@@ -14,7 +14,8 @@ use crate::shaped::Shaped;
 use terms::lent::Stock;
 use terms::refusal::Refusal;
 
-// Writes a point at the lowest dead number, sets its live byte, and answers the number. A refusal writes nothing.
+// Writes a point at the lowest dead number, sets its live byte, and answers the number. A refusal writes nothing. The stock's parts are lent one by one,
+// since two of them are written.
 pub fn take(
     k: usize,
     n: usize,
@@ -32,6 +33,7 @@ pub fn take(
 }
 
 // The first of 1, 2, 3, 15, 5 and 16 that holds of the take call's arguments, or the lowest dead number. 3 and 5 are asked of the new point too.
+// The stock comes in its parts, since the call is lent points and bytes to write, which no `Stock` holds.
 fn test_take(
     k: usize,
     n: usize,

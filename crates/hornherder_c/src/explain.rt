@@ -43,7 +43,7 @@ pub extern "C" fn hornherder_explain(
     }
 }
 
-// The numbers and values that a reason is answered by.
+// The numbers and values that a reason is answered by. No `From`, which could not ask that slot and face have room in the answer (`Named`).
 fn explaining(reason: Reason) -> Explaining
     requires { Named 65536 256 reason }
     ensures { result ≡ explaining reason }

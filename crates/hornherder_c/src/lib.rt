@@ -1,5 +1,6 @@
 // The public calls as C programs call them, a file for each. An export puts what it is given together as the values that the library's call takes, and
-// answers what that answers, or the number of its refusal. These twelve are all that the archive exports.
+// answers what that answers, or the number of its refusal. These twelve are all that the archive exports; their heads are C's, with
+// each lent slice by itself.
 #![tactic(auto)]
 
 mod arranging;

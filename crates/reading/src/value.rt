@@ -32,8 +32,9 @@ pub fn coordinate_of(value: f32) -> i32
     floor_of_bits(f32::to_bits(scaled))
 }
 
-// The greatest whole number not above the float that has these bits, where that is below 65,536 in size. The sign is whether 2 to the 31 is in it.
-// Below 1 in size it is 0 or -1; from there on the 24 digits less those after the point, and below 0 one whole number further down.
+// The greatest whole number not above the float that has these bits, where that is below 65,536 in size. By the bits, since the words tell it by them. The
+// sign is whether 2 to the 31 is in it. Below 1 in size it is 0 or -1; from there on the 24 digits less those after the point, and below 0 one whole number
+// further down.
 fn floor_of_bits(bits: u32) -> i32
     requires { exponent_of bits ≤ 142 }
     ensures { result ≡ floor_of_bits bits }

@@ -10,7 +10,7 @@ ghost use Rattle.reason.specs.Find.{Asks, Finds, SideAsks, SideOf};
 use descent::points::{before, coordinate};
 use descent::runs::{Run, left_run, right_run};
 use descent::shelf::Shelf;
-use region::faces::point_margin;
+use region::faces::face_margin;
 use region::judge::{Judgement, judge};
 use region::lowest::lowest_below;
 use region::table::Table;
@@ -25,7 +25,7 @@ fn own_reason(table: &Table, x: [i32; 4], slot: usize) -> Reason
     match lowest_below(table, x) {
         None => Reason::InsideByItself(slot),
         Some(face) => {
-            let margin = point_margin(table, x, face);
+            let margin = face_margin(table, x, face);
             Reason::OutsideByItself(slot, face, margin)
         }
     }
@@ -54,7 +54,7 @@ pub fn descend(shelf: &Shelf, table: &Table, p: u32, x: [i32; 4], run: Run, live
     let mut next = [0; 32];
     match judge(table, run.rows, live, &mut next) {
         Judgement::Below(face) => {
-            let margin = point_margin(table, x, face);
+            let margin = face_margin(table, x, face);
             Reason::OutsideWithBranch(slot, face, margin)
         }
         Judgement::Above => Reason::InsideWithBranch(slot),

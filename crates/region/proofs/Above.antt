@@ -12,7 +12,7 @@ use Rattle.region.specs.Told.{told}
 use Rattle.region.specs.declared.table.Table.{Table}
 use Rattle.region.proofs.Signed.{back64}
 
--- The answer of `above` to a margin that `point_margin` gave is whether the point is above the face.
+-- The answer of `above` to a margin that `face_margin` gave is whether the point is above the face.
 pub above_told : (t : Table) (i : ℕ) (x : ℕ → ℤ) {m : ℤ} {answer : Bool} → mag m < 9223372036854775808 → m ≡ margin (told t) i x
     → ((g : Region) → g.marked_open i ≡ eqb (get_or t.marks.now i 0) 1 → answer ≡ above_by g i (to_z w64 (of_z w64 m))) → answer ≡ above (told t) i x
 above_told t i x fits e says = margin_above (told t) i (reach (told t) i x) (says (told t) refl) (back64 fits ∙ e)

@@ -99,6 +99,22 @@ pub known_table : {k : ℕ} {normals offsets table : List ℤ} {marks : List ℕ
     → KnownTable k (faces_of table offsets marks)
 known_table w t = record { many = w.tested.many; each = λ i l. known_row w l (t.each i l); marked = λ i l. known_marked w l }
 
+-- The table has a row i.
+pub record HasRow (k : ℕ) (f : Faces) (i : ℕ) : Type 0 where
+  pub all : KnownTable k f
+  pub known : i < f.h
+
+-- A point has a margin to row i of a table: the row is a normal, and face i has its offset.
+pub record HasMargin (k : ℕ) (table offsets : List ℤ) (i : ℕ) : Type 0 where
+  pub few : i < 32
+  pub normal : Normal k (normal_of 4 table i)
+  pub offset : HasOffset offsets i
+
+pub has_margin : {k : ℕ} {f : Faces} {i : ℕ} → HasRow k f i → HasMargin k f.normals f.offsets i
+has_margin {i = i} w =
+    let a = w.all in
+    record { few = omega (arith, w.known, a.many); normal = a.each i w.known; offset = (a.marked i w.known).offset }
+
 -- A row with the same four components as a normal is one, and agrees with it on the first k.
 module _ {k : ℕ} {normal : ℕ → ℤ} (n : Normal k normal) {row : ℕ → ℤ} (s : SamePoint 4 row normal) where
   pub row_normal : Normal k row

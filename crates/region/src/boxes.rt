@@ -23,6 +23,7 @@ fn by_sign(component: i32, first: i32, second: i32) -> i32
 }
 
 // The corner of a box that a face's signs choose from its rows: in each dimension the first row where the component is 0 or more, else the second.
+// Written out, since four lines say it as plainly as `from_fn`, whose closure would owe a clause of its own.
 fn corner(first: [i32; 4], second: [i32; 4], row: [i32; 4]) -> [i32; 4]
     ensures { SamePoint 4 (lone result) (corner (lone first) (lone second) (lone row)) }
 {
@@ -51,7 +52,7 @@ pub fn wholly_above(table: &Table, rows: CornerRows, i: usize) -> bool
     ensures { result ≡ wholly_above (told table.now) (box_of rows) i }
 {
     let CornerRows { low, high } = rows;
-    let reached = corner_sum(table.k, low, high, row_at(table, i));
+    let reached = corner_sum(table.k, low, high, row_at(&table.rows, i));
     above(margin(reached, table.offsets, i), table.marks, i)
 }
 
@@ -62,11 +63,12 @@ pub fn wholly_below(table: &Table, rows: CornerRows, i: usize) -> bool
     ensures { result ≡ wholly_below (told table.now) (box_of rows) i }
 {
     let CornerRows { low, high } = rows;
-    let reached = corner_sum(table.k, high, low, row_at(table, i));
+    let reached = corner_sum(table.k, high, low, row_at(&table.rows, i));
     !above(margin(reached, table.offsets, i), table.marks, i)
 }
 
-// The row with its entry of dimension s replaced by x.
+// The row with its entry of dimension s replaced by x. That s is below 4 is asked here and of a run and a key as well: a type for a dimension would say no
+// more than the number.
 fn replaced(mut row: [i32; 4], s: usize, x: i32) -> [i32; 4]
     requires { s < 4 }
     ensures { result ≡ set row s x }

@@ -18,7 +18,8 @@ pub enum Judgement {
     Open(usize),
 }
 
-// Judges a box against its live faces, in rising order, up to the first that it is wholly below. Those that are left are written to `next`.
+// Judges a box against its live faces, in rising order, up to the first that it is wholly below. Those that are left are written to `next`, and
+// `left` counts them: without a heap they need an array with room for all.
 pub fn judge(table: &Table, rows: CornerRows, live: &[u8], next: &mut [u8; 32]) -> Judgement
     requires box_ranges { BoxRanges table.now.k (box_of rows) }
     requires lives { Lives (told table.now) (box_of rows) live.now (length live.now) }

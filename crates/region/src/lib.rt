@@ -4,8 +4,8 @@
 pub mod boxes;
 pub mod faces;
 pub mod judge;
-pub mod lent;
 pub mod live;
 pub mod lowest;
 pub mod measure;
 pub mod table;
+pub mod tested;

@@ -6,7 +6,7 @@ ghost use Rattle.theory.specs.Tested.{Coordinates};
 ghost use Rattle.region.specs.Told.{told};
 ghost use Rattle.region.specs.Live.{LiveFaces, AllLive, InsideByLive};
 
-use crate::faces::{above, point_margin};
+use crate::faces::{above, face_margin};
 use crate::table::Table;
 
 // All faces, which are live before any box is asked: the first h entries for h faces.
@@ -16,7 +16,8 @@ pub fn all_faces() -> [u8; 32]
     std::array::from_fn(|i| i as u8)
 }
 
-// Whether a point, which lies in a box for which these faces are live, is inside the region.
+// Whether a point, which lies in a box for which these faces are live, is inside the region. A `for`, since what `all` is handed would owe the clauses of
+// `face_margin` for any number.
 pub fn inside_live(table: &Table, x: [i32; 4], live: &[u8]) -> bool
     requires coordinates { Coordinates table.now.k (lone x) }
     requires live_faces { LiveFaces (length table.now.offsets.now) live.now (length live.now) }
@@ -24,7 +25,7 @@ pub fn inside_live(table: &Table, x: [i32; 4], live: &[u8]) -> bool
 {
     for &f in live {
         let i = f as usize;
-        if !above(point_margin(table, x, i), table.marks, i) {
+        if !above(face_margin(table, x, i), table.marks, i) {
             return false;
         }
     }

@@ -5,16 +5,17 @@ ghost use Rattle.theory.specs.Tested.{Coordinates};
 ghost use Rattle.region.specs.Told.{told};
 ghost use Rattle.region.specs.Lowest.{LowestFace};
 
-use crate::faces::{above, point_margin};
+use crate::faces::{above, face_margin};
 use crate::table::Table;
 
-// Tests the faces in rising order up to the first that the point is below, if there is one.
+// Tests the faces in rising order up to the first that the point is below, if there is one. An index, since a face is its row, its offset and its mark,
+// in three places.
 pub fn lowest_below(table: &Table, x: [i32; 4]) -> Option<usize>
     requires { Coordinates table.now.k (lone x) }
     ensures { LowestFace (told table.now) (lone x) result }
 {
     for i in 0..table.offsets.len() {
-        if !above(point_margin(table, x, i), table.marks, i) {
+        if !above(face_margin(table, x, i), table.marks, i) {
             return Some(i);
         }
     }

@@ -6,7 +6,7 @@ ghost use Rattle.region.specs.Told.{region_of};
 ghost use Rattle.region.specs.Measured.{Leads, PointMeasured};
 
 use crate::faces::{above, margin, row_of, sum};
-use crate::lent::LentFaces;
+use crate::tested::TestedFaces;
 use terms::answers::{LeastMargin, Placed};
 
 // Whether a face takes the place of the one with the least margin so far: the first does, a later one where its margin is strictly less.
@@ -19,8 +19,8 @@ fn leads(margin: i64, least: Option<LeastMargin>) -> bool
     }
 }
 
-// Measures a point against all faces, in rising order.
-pub fn measure(faces: &LentFaces, x: [i32; 4]) -> Placed
+// Measures a point against all faces, in rising order. An index, since a face's normal, offset and mark stand in three slices.
+pub fn measure(faces: &TestedFaces, x: [i32; 4]) -> Placed
     requires { Coordinates faces.now.k (lone x) }
     ensures { PointMeasured (region_of faces.now) (lone x) result }
 {

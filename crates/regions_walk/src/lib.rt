@@ -13,11 +13,11 @@ ghost use Rattle.regions_walk.specs.RegionsListed.{RoomForRegions, RegionsListed
 
 use descent::shelf::Shelf;
 use joined::JoinedFaces;
-use region::lent::LentFaces;
+use region::tested::TestedFaces;
 use walk::walk;
 
 // Lists one region in the places that are lent for it, and writes its counts: inside, outside, visits.
-fn list_region(shelf: &Shelf, faces: &LentFaces, list: &mut [u32], counts: &mut [u32])
+fn list_region(shelf: &Shelf, faces: &TestedFaces, list: &mut [u32], counts: &mut [u32])
     requires same_k { faces.now.k ≡ shelf.now.k }
     requires order_len_bound { length shelf.now.order.now ≤ 65535 }
     requires list_len { length list.old ≡ length shelf.now.order.now }
@@ -40,7 +40,7 @@ pub fn walk_regions(shelf: &Shelf, regions: &JoinedFaces, lists: &mut [u32], cou
     let mut face = 0;
     for (r, &count) in regions.face_counts.iter().enumerate() {
         let h = count as usize;
-        let faces = LentFaces {
+        let faces = TestedFaces {
             k: regions.k,
             normals: &regions.normals[regions.k * face..regions.k * face + regions.k * h],
             offsets: &regions.offsets[face..face + h],

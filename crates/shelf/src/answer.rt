@@ -13,6 +13,7 @@ use text::input::{Sizes, read};
 use text::output::{write_answer, write_refused};
 
 // Writes the answer to a text, and says how many bytes it is. The faces of a text are closed, and its points all live.
+// The arrays have room for the longest text and, with 16,384 bytes, the longest answer, since there is no heap.
 pub fn answer(input: &[u8], out: &mut [u8]) -> usize
     requires { 16384 ≤ length out.old }
     ensures { Writes (Answer input.now) out.new result }

@@ -4,7 +4,8 @@ ghost use Rattle.std.specs.Prelude.{◌≡◌, ◌+◌, ◌≤◌, ◌<◌, leng
 use std::io;
 use std::io::Read;
 
-// What was read: how many bytes were taken, and how many of them the last read gave.
+// What was read: how many bytes were taken, and how many of them the last read gave, which stays for
+// the clause `last_value` of `take_input`.
 #[derive(Drop)]
 pub struct Taken {
     pub count: usize,

@@ -16,7 +16,7 @@ use Rattle.region.specs.Ranges.{BoxRanges}
 use Rattle.descent.specs.Standing.{Known}
 use Rattle.descent.specs.Root.{root_ranges}
 use Rattle.summary.specs.Stored.{HasBox, BoxAt, Stands, stands_read, stands_alike}
-use Rattle.summary.specs.Joined.{Joined, joined_first, joined_second, joined_least}
+use Rattle.descent.specs.Joined.{Joined, joined_first, joined_second, joined_least}
 
 -- What a box holds a larger box holds.
 held_nested : {k : ℕ} {at : ℕ → ℕ → ℤ} {inner outer : Box} {run : List ℕ} → Nested k inner outer → Held k at inner run → Held k at outer run

@@ -1,6 +1,6 @@
 pub mod Stored
 pub mod Written
-pub mod Joined
 pub mod BranchBox
 pub mod Shares
+pub mod Shared
 pub mod Shelf

@@ -200,7 +200,7 @@ module _ {k : ℕ} {points : List ℤ} (order : List ℕ) (S : List ℤ) (w : Su
   at = coord k points
 
   abbrev pub left_share : List ℤ
-  left_share = take (a - 0) (drop 0 S)
+  left_share = take a S
 
   abbrev pub own_share : List ℤ
   own_share = take (b - a) (drop a S)
@@ -208,14 +208,11 @@ module _ {k : ℕ} {points : List ℤ} (order : List ℕ) (S : List ℤ) (w : Su
   abbrev pub right_share : List ℤ
   right_share = take (length S - b) (drop b S)
 
-  left_taken : left_share ≡ take a S
-  left_taken = let z : a - 0 ≡ a = omega arith in rw z
-
   right_dropped : right_share ≡ drop b S
   right_dropped = take_all (length S - b) (drop b S) (omega (arith, length-drop b S))
 
   pub left_length_is : length left_share ≡ a
-  left_length_is = ap length left_taken ∙ length-take-le a S (omega (arith, own_within w some))
+  left_length_is = length-take-le a S (omega (arith, own_within w some))
 
   pub own_length_is : length own_share ≡ k + k
   own_length_is = length-take-le (b - a) (drop a S) (omega (arith, length-drop a S, own_within w some)) ∙ omega arith
@@ -228,7 +225,7 @@ module _ {k : ℕ} {points : List ℤ} (order : List ℕ) (S : List ℤ) (w : Su
       let e : a + (b - a) ≡ b = omega arith in
       let d : drop (b - a) (drop a S) ≡ drop b S = drop-drop (b - a) a S ∙ ap (λ (n : ℕ). drop n S) e in
       let t : own_share ++ right_share ≡ drop a S = rw (right_dropped, ← d) (take-append-drop (b - a) (drop a S)) in
-      rw (t, left_taken) (sym (take-append-drop a S))
+      rw t (sym (take-append-drop a S))
 
   by_shares : is_summary k at order S
       ≡ is_summary k at (lefts order) left_share && (same_numbers own_share (corners k (tight_box at order)) && is_summary k at (rights order) right_share)
@@ -255,7 +252,7 @@ module _ {k : ℕ} {points : List ℤ} (order : List ℕ) (S : List ℤ) (w : Su
         pub told_stored : BranchesStored k points order S
         told_stored =
             shares_stored order S w some
-            (sym left_taken ∙ same_numbers_lem left_share (summary k at (lefts order)) (accepted left same))
+            (same_numbers_lem left_share (summary k at (lefts order)) (accepted left same))
             (sym right_dropped ∙ same_numbers_lem right_share (summary k at (rights order)) (accepted right same-too))
 
         pub own_tells : {box : Box} {answer : Bool} → Alike k box (tight_box at order) → answer ≡ same_numbers own_share (corners k box)

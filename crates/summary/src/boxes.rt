@@ -1,4 +1,4 @@
-// A box in the summary, as 2k numbers with the k least first: read, written and compared.
+// A box in the summary, as 2k numbers with the k least first: read, written and compared. A box has four places for any k, so that k is at most 4 is asked.
 ghost use Rattle.std.specs.Prelude.{◌≡◌, ◌+◌, ◌≤◌, length};
 ghost use Rattle.terms.specs.Box.{box_of};
 ghost use Rattle.terms.specs.Summary.{corners, same_numbers};

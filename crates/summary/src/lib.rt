@@ -4,6 +4,7 @@
 
 pub mod boxes;
 pub mod branch_box;
+mod shares;
 
 ghost use Rattle.std.specs.Prelude.{◌≡◌, length};
 ghost use Rattle.terms.specs.Points.{coord};
@@ -12,47 +13,49 @@ ghost use Rattle.summary.specs.Shares.{Summarisable};
 
 use boxes::{same_box, write_box};
 use branch_box::branch_box;
+use descent::slots::Slots;
+use shares::{Shares, share_out};
 
 // Fills the summary of these slots: the left branch's part, the right branch's, then the box between them.
-pub fn fill(k: usize, points: &[i32], order: &[u32], summary: &mut [i32])
-    requires { Summarisable k points.now order.now (length summary.old) }
-    ensures { summary.new ≡ words.summary k (coord k points.now) order.now }
+pub fn fill(slots: &Slots, summary: &mut [i32])
+    requires { Summarisable slots.now.k slots.now.points.now slots.now.order.now (length summary.old) }
+    ensures { summary.new ≡ words.summary slots.now.k (coord slots.now.k slots.now.points.now) slots.now.order.now }
 {
-    let c = order.len();
-    if c == 0 {
+    if slots.order.is_empty() {
         return;
     }
-    let m = c / 2;
-    let r = m + 1;
-    let w = k + k;
-    let a = m * w;
-    let b = a + w;
-    fill(k, points, &order[0..m], &mut summary[..a]);
-    fill(k, points, &order[r..], &mut summary[b..]);
-    let own = branch_box(k, points, order, summary);
-    write_box(k, own, &mut summary[a..b]);
+    let Shares {
+        lefts,
+        rights,
+        from,
+        to,
+    } = share_out(slots);
+    fill(&lefts, &mut summary[..from]);
+    fill(&rights, &mut summary[to..]);
+    let own = branch_box(slots, summary);
+    write_box(slots.k, own, &mut summary[from..to]);
 }
 
 // Whether the lent list is the summary of these slots: so for both branches, and then for the box between them. Nothing is written.
-pub fn is_summary(k: usize, points: &[i32], order: &[u32], summary: &[i32]) -> bool
-    requires { Summarisable k points.now order.now (length summary.now) }
-    ensures { result ≡ words.is_summary k (coord k points.now) order.now summary.now }
+pub fn is_summary(slots: &Slots, summary: &[i32]) -> bool
+    requires { Summarisable slots.now.k slots.now.points.now slots.now.order.now (length summary.now) }
+    ensures { result ≡ words.is_summary slots.now.k (coord slots.now.k slots.now.points.now) slots.now.order.now summary.now }
 {
-    let c = order.len();
-    if c == 0 {
+    if slots.order.is_empty() {
         return true;
     }
-    let m = c / 2;
-    let r = m + 1;
-    let w = k + k;
-    let a = m * w;
-    let b = a + w;
-    if !is_summary(k, points, &order[0..m], &summary[0..a]) {
+    let Shares {
+        lefts,
+        rights,
+        from,
+        to,
+    } = share_out(slots);
+    if !is_summary(&lefts, &summary[..from]) {
         return false;
     }
-    if !is_summary(k, points, &order[r..], &summary[b..]) {
+    if !is_summary(&rights, &summary[to..]) {
         return false;
     }
-    let own = branch_box(k, points, order, summary);
-    same_box(k, own, &summary[a..b])
+    let own = branch_box(slots, summary);
+    same_box(slots.k, own, &summary[from..to])
 }

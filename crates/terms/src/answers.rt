@@ -22,7 +22,8 @@ pub struct LeastMargin {
     pub margin: i64,
 }
 
-// What the test of one point found: whether it is inside, and its least margin where there are faces.
+// What the test of one point found: whether it is inside, and its least margin where there are faces. The two are apart, since a point is inside or
+// outside with or without faces.
 #[derive(Clone, Copy, Debug, PartialEq, Eq)]
 pub struct Placed {
     pub inside: bool,

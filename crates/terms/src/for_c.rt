@@ -11,7 +11,8 @@ ghost use Rattle.terms.specs.RefusalNumbers.{code_of};
 
 use crate::refusal::Refusal;
 
-// 0 where a call that answers nothing else is done, else the refusal's number.
+// 0 where a call that answers nothing else is done, else the refusal's number. A function, since `From` can't be
+// implemented between two types of the language's own.
 pub fn code(done: Result<(), Refusal>) -> u32
     ensures { result ≡ code_of done }
 {

@@ -1,4 +1,5 @@
-// What a caller lends, as one value each.
+// What a caller lends, as one value each. Counts stand beside the slices, and slices beside one another, as the C interface hands them: whether they
+// agree is what the tests of a call ask.
 
 // A stock: n points of k coordinates each, point 0 first, and a live byte for each. Nothing was tested of it.
 #[derive(Clone, Copy)]

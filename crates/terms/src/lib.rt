@@ -48,6 +48,8 @@ pub enum Reason {
     OutsideByItself(usize, usize, i64),
 }
 
+// The answers from here on are C's: a number beside what was found, since C has no `Result`.
+
 // What a call that makes a point answers: made is 1, or 0 where nothing was measured. A refusal has its number and 0.
 #[repr(C)]
 #[derive(Clone, Copy)]

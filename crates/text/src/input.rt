@@ -32,7 +32,7 @@ impl Cursor<'_> {
 }
 
 // Reads the text, and answers its sizes: the coordinates, the components and the offsets go to the first places of what is lent. If the text is not as
-// it must be, the lent places may hold anything.
+// it must be, the lent places may hold anything. They are arrays with room for the longest text, since there is no heap.
 pub fn read(
     text: &[u8],
     points: &mut [i32],

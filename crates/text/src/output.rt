@@ -1,4 +1,5 @@
-// Writing what the program answers: each function writes to the front of the output, and answers how many bytes it wrote.
+// Writing what the program answers: each function writes to the front of the output, and answers how many bytes it wrote. The two that other crates call
+// take a slice with room enough, as they did: an array of so many bytes would ask more of a caller.
 ghost use Rattle.std.specs.Prelude.{◌+◌, ◌*◌, ◌≤◌, length};
 ghost use Rattle.text.specs.Decimal.{decimal};
 ghost use Rattle.text.specs.Printing.{Put, PutItems, PutLine, Printed};
@@ -25,7 +26,7 @@ fn write_decimal(n: u32, out: &mut [u8]) -> usize
     write_word(digits.format(n).as_bytes(), out)
 }
 
-// Writes numbers, a space in front of each.
+// Writes numbers, a space in front of each. The place is kept by hand, since a number takes as many bytes as it has digits.
 fn write_items(numbers: &[u32], out: &mut [u8]) -> usize
     requires { 11 * length numbers.now ≤ length out.old }
     ensures { PutItems out.old out.new 0 result (length numbers.now) numbers.now }

@@ -11,7 +11,7 @@ use Rattle.theory.specs.Boxes.{Held, Alike, Nested, alike_nested}
 use Rattle.theory.specs.TightBoxes.{settled_none_tight}
 use Rattle.descent.specs.declared.runs.Run.{Run}
 use Rattle.descent.specs.Slots.{run_of}
-use Rattle.walk.specs.declared.slots.Slots.{Slots}
+use Rattle.descent.specs.declared.slots.Slots.{Slots}
 use Rattle.walk.specs.Branches.{Going, Within, BranchLaws}
 use Rattle.tight_walk.specs.declared.tight_boxes.TightBoxes.{TightBoxes}
 use Rattle.tight_walk.specs.TightBoxes.{tights, Summarised, BoxRead, tights_many, read_alike, read_ranges, read_held, read_nested, summarised_left, summarised_right, left_held, right_held, tights_whole}

@@ -1,24 +1,27 @@
 -- The walk of a whole shelf by its summary: what its root's walk does is what the words say of the shelf, and how that stands to the walk by branch boxes.
-use Rattle.std.specs.Prelude.{◌≡◌, refl, true, List, ℕ, ◌-◌, ◌≤◌, length, ℤ}
-use Rattle.std.proofs.Common.{sym, ◌∙◌, arith}
+use Rattle.std.specs.Prelude.{◌≡◌, refl, Bool, true, List, ℕ, ◌-◌, ◌≤◌, length, ℤ}
+use Rattle.std.proofs.Common.{sym, ap, subst, ◌∙◌, arith}
 use Rattle.std.proofs.Math.Seq.{take-length}
 use Rattle.std.proofs.Math.Decide.{dec_lt}
+use Rattle.terms.specs.Tests.{count}
+use Rattle.terms.specs.Lent.{faces_of}
 use Rattle.terms.specs.Points.{coord}
 use Rattle.terms.specs.Tree.{tree_run}
 use Rattle.terms.specs.Box.{Box, box_of}
-use Rattle.terms.specs.TightBox.{tight_boxes}
+use Rattle.terms.specs.TightBox.{tight_boxes, shelf_tight_boxes}
 use Rattle.terms.specs.Summary.{summary}
-use Rattle.terms.specs.Region.{Region, inside}
+use Rattle.terms.specs.Region.{Region, region, inside}
 use Rattle.terms.specs.Visits.{tight_visits}
 use Rattle.theory.specs.Boxes.{Held}
 use Rattle.theory.specs.TightVisits.{tight_visits_count, tight_visits_le_slots}
 use Rattle.theory.proofs.TightVisits.{tight_visits_le}
 use Rattle.theory.specs.InsideAndOutside.{lists_length}
+use Rattle.region.specs.Table.{Tabled, tabled, inside_tabled, open_tabled}
 use Rattle.list_buffer.specs.Listed.{AllListed, listed_all}
 use Rattle.descent.specs.declared.runs.Run.{Run}
 use Rattle.descent.specs.Slots.{run_of, run_length}
 use Rattle.walk.specs.declared.Tally.{Tally}
-use Rattle.walk.specs.declared.slots.Slots.{Slots}
+use Rattle.descent.specs.declared.slots.Slots.{Slots}
 use Rattle.walk.specs.Down.{WalkedDown}
 use Rattle.walk.specs.Shelf.{ShelfWalked, AtMost}
 use Rattle.summary.specs.Stored.{stored_all}
@@ -63,6 +66,19 @@ pub shelf_walked : {g : Region} (n : Slots) {list after : List ℕ} {tally : Tal
 shelf_walked {g} n size w =
     let v = rw (take-length n.order.now) at w.visits in
     record { listed = listed_all size w.listed; visited = omega (arith, v, tight_visits_count g (coord n.k n.points.now) n.order.now) }
+
+-- What it does by the table of the faces is what it does by the faces.
+pub walked_by_faces : {k : ℕ} {normals table : List ℤ} (offsets : List ℤ) (marks : List ℕ) {at : ℕ → ℕ → ℤ} {order after : List ℕ} {i u : ℕ}
+    → Tabled k normals (length offsets) table → TightlyWalked (tabled k (faces_of table offsets marks)) at order after i u
+    → TightlyWalked (region k (faces_of normals offsets marks)) at order after i u
+walked_by_faces offsets marks {at} {order} {after} {i} t w = record {
+  listed = subst (λ (test : (ℕ → ℤ) → Bool). AllListed (λ p. test (at p)) order after i) (inside_tabled offsets marks t) w.listed;
+  visited =
+      w.visited
+      ∙ tight_visits_count _ at order
+      ∙ ap (λ (test : Box → Bool). count test (shelf_tight_boxes at order)) (open_tabled offsets marks t)
+      ∙ sym (tight_visits_count _ at order);
+}
 
 module _ {g : Region} {at : ℕ → ℕ → ℤ} {order after : List ℕ} {i u : ℕ} (w : TightlyWalked g at order after i u) where
   -- No count of the walk is over the number of slots.

@@ -10,15 +10,15 @@ ghost use Rattle.region.specs.Told.{region_of};
 ghost use Rattle.tight_walk.specs.Shelf.{TightlyWalked};
 
 use descent::runs::Run;
-use region::lent::LentFaces;
+use descent::slots::Slots;
+use region::tested::TestedFaces;
 use terms::CornerRows;
 use tight_boxes::{TightBoxes, box_in};
 use walk::Tally;
 use walk::down::walk_down;
-use walk::slots::Slots;
 
 // Lists the numbers of a shelf whose summary this is. The list has as many places as the shelf has slots. The root is judged like any branch.
-pub fn tight_walk(slots: &Slots, summary: &[i32], faces: &LentFaces, list: &mut [u32]) -> Tally
+pub fn tight_walk(slots: &Slots, summary: &[i32], faces: &TestedFaces, list: &mut [u32]) -> Tally
     requires order_len_bound { length slots.now.order.now ≤ 65535 }
     requires summary_value { summary.now ≡ words.summary slots.now.k (coord slots.now.k slots.now.points.now) slots.now.order.now }
     requires same_k { faces.now.k ≡ slots.now.k }
@@ -27,6 +27,7 @@ pub fn tight_walk(slots: &Slots, summary: &[i32], faces: &LentFaces, list: &mut 
         slots.now.order.now list.new result.inside result.visits }
 {
     let length = slots.order.len();
+    // Any box holds the branches of an empty shelf.
     let none = CornerRows {
         low: [0; 4],
         high: [0; 4],

@@ -6,10 +6,10 @@ ghost use Rattle.tight_walk.specs.TightBoxes.{BoxRead};
 ghost use Rattle.tight_walk.specs.Laws.{GoesByTightBox, own_box, tight_slots, LeftOf, RightOf, tight_box_laws};
 
 use descent::runs::Run;
+use descent::slots::Slots;
 use summary::boxes::read_box;
 use terms::CornerRows;
 use walk::branches::Branches;
-use walk::slots::Slots;
 
 // The kind of branches whose boxes are the tight boxes of a summary: two points to a slot, the least and the greatest coordinates of its branch.
 #[derive(Clone, Copy)]
@@ -18,6 +18,7 @@ pub struct TightBoxes<'a> {
 }
 
 // The box of the branch of so many slots from a slot on, read from the slot of its node; of an empty one, which is never asked, the box in which it lies.
+// Start and length come one by one, since a `Run` holds the box that is read here.
 pub fn box_in(
     k: usize,
     summary: &[i32],

@@ -15,7 +15,7 @@ use Rattle.descent.specs.Boxed.{Boxed, boxed_own, boxed_left, boxed_right}
 use Rattle.descent.specs.Runs.{Child}
 use Rattle.descent.specs.SlotBoxes.{slot_boxes, slot_boxes_length, slot_boxes_whole}
 use Rattle.descent.specs.SettledSlots.{settled_slots}
-use Rattle.walk.specs.declared.slots.Slots.{Slots}
+use Rattle.descent.specs.declared.slots.Slots.{Slots}
 use Rattle.walk.specs.declared.branch_boxes.BranchBoxes.{BranchBoxes}
 use Rattle.walk.specs.Branches.{Going, Within, BranchLaws}
 

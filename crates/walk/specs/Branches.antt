@@ -9,7 +9,7 @@ use Rattle.theory.specs.Boxes.{Held, Alike, Nested}
 use Rattle.region.specs.Ranges.{BoxRanges}
 use Rattle.descent.specs.Slots.{run_of}
 use Rattle.descent.specs.declared.runs.Run.{Run}
-use Rattle.walk.specs.declared.slots.Slots.{Slots}
+use Rattle.descent.specs.declared.slots.Slots.{Slots}
 
 -- A branch of the c slots from slot a on: the box by which it is judged holds its points, and where it is settled no slot is open, of those with these boxes.
 pub record Going (k : ℕ) (at : ℕ → ℕ → ℤ) (order : List ℕ) (a c : ℕ) (b : Box) (slot_boxes : List Box) : Type 0 where

@@ -6,14 +6,14 @@ use Rattle.terms.specs.Tests.{count}
 use Rattle.terms.specs.Points.{coord}
 use Rattle.terms.specs.Box.{Box}
 use Rattle.terms.specs.Region.{Region}
-use Rattle.region.specs.declared.lent.LentFaces.{LentFaces}
+use Rattle.region.specs.declared.tested.TestedFaces.{TestedFaces}
 use Rattle.region.specs.declared.table.Table.{Table}
 use Rattle.region.specs.Table.{inside_tabled, open_tabled}
 use Rattle.region.specs.Told.{region_of, told, TableOf, told_is}
 use Rattle.list_buffer.specs.Listed.{Listed}
 use Rattle.descent.specs.Slots.{run_of}
 use Rattle.walk.specs.declared.Tally.{Tally}
-use Rattle.walk.specs.declared.slots.Slots.{Slots}
+use Rattle.descent.specs.declared.slots.Slots.{Slots}
 use Rattle.walk.specs.Walked.{Walked}
 
 -- The walk of all slots, which have these boxes.
@@ -21,7 +21,7 @@ abbrev pub WalkedDown : Region → Slots → List Box → List ℕ → List ℕ 
 WalkedDown g n slot_boxes list after tally = Walked g (coord n.k n.points.now) n.order.now slot_boxes list after 0 0 0 tally.inside tally.visits
 
 -- What is walked by the table of the faces is walked by the faces.
-pub walked_by_faces : {f : LentFaces} {t : Table} → TableOf f t → {at : ℕ → ℕ → ℤ} {run : List ℕ} {slot_boxes : List Box} {list after : List ℕ} {d i u j v : ℕ}
+pub walked_by_faces : {f : TestedFaces} {t : Table} → TableOf f t → {at : ℕ → ℕ → ℤ} {run : List ℕ} {slot_boxes : List Box} {list after : List ℕ} {d i u j v : ℕ}
     → Walked (told t) at run slot_boxes list after d i u j v → Walked (region_of f) at run slot_boxes list after d i u j v
 walked_by_faces {f} made {at} {run} {slot_boxes} {list} {after} {d} {i} {u} {j} w =
     let v = rw (told_is made) at w in

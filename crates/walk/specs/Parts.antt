@@ -16,7 +16,7 @@ use Rattle.descent.specs.declared.runs.Run.{Run}
 use Rattle.descent.specs.Points.{PointAt, point_told}
 use Rattle.descent.specs.Slots.{run_of, own_of, lent_of, lent_run, run_length, run_node, run_whole}
 use Rattle.walk.specs.declared.Tally.{Tally}
-use Rattle.walk.specs.declared.slots.Slots.{Slots}
+use Rattle.descent.specs.declared.slots.Slots.{Slots}
 use Rattle.walk.specs.Branches.{Going, Within, BranchLaws}
 use Rattle.walk.specs.Walked.{Walked, walked_none, walked_inside, walked_outside, walked_open}
 use Rattle.walk.specs.Tallied.{Tallied, tallied_left, tallied_own, tallied_right}
@@ -37,14 +37,15 @@ none_of : {A : Type 0} (xs : List A) → length xs ≡ 0 → xs ≡ []
 none_of [] e = refl
 none_of (x ∷ xs) e = absurd (omega (arith, e))
 
+-- An empty branch.
+pub branch_empty : (g : Region) (at : ℕ → ℕ → ℤ) (order : List ℕ) (a c : ℕ) {slot_boxes : List Box} (list : List ℕ) (i u : ℕ) → length slot_boxes ≡ c → c ≡ 0
+    → BranchWalked g at order a c slot_boxes list list i u i u
+branch_empty g at order a c {slot_boxes} list i u long e = rw (none_of slot_boxes (long ∙ e), e) (walked_none g at list a i u)
+
 module _ {g : Region} {k : ℕ} {at : ℕ → ℕ → ℤ} {order : List ℕ} {a c : ℕ} {b : Box} {slot_boxes : List Box} {live list : List ℕ} {i u : ℕ}
     (w : Walkable g k at order a c b slot_boxes live list i u) where
   slots : length (run_of order a c) ≡ c
   slots = run_length order a c w.going.fits
-
-  -- An empty branch.
-  pub branch_empty : c ≡ 0 → BranchWalked g at order a c slot_boxes list list i u i u
-  branch_empty e = rw (none_of (run_of order a c) (slots ∙ e), none_of slot_boxes (w.going.long ∙ e)) (walked_none g at list a i u)
 
   room : a + length (run_of order a c) ≤ length list
   room = omega (arith, slots, w.tallied.size, w.going.fits)

@@ -2,9 +2,9 @@
 ghost use Rattle.walk.specs.BranchBoxes.{GoesByBranchBox, own_box, branch_boxes, LeftOf, RightOf, branch_box_laws};
 
 use crate::branches::Branches;
-use crate::slots::Slots;
 use descent::points::coordinate;
 use descent::runs::{Run, left_run, right_run};
+use descent::slots::Slots;
 use terms::axis::next_axis;
 
 // The kind of branches whose boxes are the branch boxes.

@@ -1,13 +1,14 @@
-// What a walk goes down by: branches, each with the box that it is judged by.
+// What a walk goes down by: branches, each with the box that it is judged by. A run and the slots are two values, so what holds of both (that the run is a
+// branch of the slots and has one, and whose number its node has) each function asks.
 ghost use Rattle.std.specs.Prelude.{◌≡◌, ◌<◌, List};
 ghost use Rattle.terms.specs.Box.{Box};
 ghost use Rattle.descent.specs.declared.runs.Run as runs;
 ghost use Rattle.descent.specs.Slots.{own_of};
-ghost use Rattle.walk.specs.declared.slots.Slots as shelf;
+ghost use Rattle.descent.specs.declared.slots.Slots as shelf;
 ghost use Rattle.walk.specs.Branches.{BranchLaws};
 
-use crate::slots::Slots;
 use descent::runs::Run;
+use descent::slots::Slots;
 
 // A kind of branches. The ghost members say which runs are branches of the slots, by which box the words judge one, what the boxes of its slots are, and which
 // are the two branches of its node. Each kind proves the laws, and a walk rests on nothing else.

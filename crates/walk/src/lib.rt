@@ -5,7 +5,6 @@ pub mod branch_boxes;
 pub mod branches;
 pub mod down;
 mod parts;
-pub mod slots;
 
 ghost use Rattle.std.specs.Prelude.{◌≡◌, length};
 ghost use Rattle.terms.specs.Points.{coord};
@@ -15,9 +14,9 @@ ghost use Rattle.walk.specs.Shelf.{ShelfWalked};
 use branch_boxes::BranchBoxes;
 use descent::runs::root_run;
 use descent::shelf::Shelf;
+use descent::slots::Slots;
 use down::walk_down;
-use region::lent::LentFaces;
-use slots::Slots;
+use region::tested::TestedFaces;
 
 // How many numbers the list holds in front, and how many nodes were visited. The other numbers of the slots walked so far stand behind.
 #[derive(Clone, Copy, Default)]
@@ -27,7 +26,7 @@ pub struct Tally {
 }
 
 // Lists the numbers of a shelf. The list has as many places as the shelf has slots. The root is judged like any branch.
-pub fn walk(shelf: &Shelf, faces: &LentFaces, list: &mut [u32]) -> Tally
+pub fn walk(shelf: &Shelf, faces: &TestedFaces, list: &mut [u32]) -> Tally
     requires same_k { faces.now.k ≡ shelf.now.k }
     requires list_len { length list.old ≡ length shelf.now.order.now }
     ensures { ShelfWalked (region_of faces.now) (coord shelf.now.k shelf.now.points.now)

@@ -9,9 +9,9 @@ ghost use Rattle.walk.specs.Parts.{BranchDoes};
 
 use crate::Tally;
 use crate::branches::Branches;
-use crate::slots::Slots;
 use descent::points::point_at;
 use descent::runs::Run;
+use descent::slots::Slots;
 use list_buffer::copiers::{copy_inside, copy_outside};
 use list_buffer::placing::place;
 use region::judge::{Judgement, judge};

@@ -13,7 +13,7 @@ pub descend-requires : goal.descend-requires
 descend-requires c =
     let p = c.requires in
     let s = c.args.shelf.now in
-    let t = c.table_of-table.ensures in
+    let t = c.faces_table-table.ensures in
     let r = c.root_run.ensures in
     let faced = faced_root t p.same_k c.all_faces-live.ensures (box_of s.rows) in
     record {
@@ -24,7 +24,7 @@ descend-requires c =
 pub returns : goal.returns
 returns c =
     let p = c.requires in
-    let t = c.table_of-table.ensures in
+    let t = c.faces_table-table.ensures in
     let r = c.root_run.ensures in
     let found = rw (r.starts, r.slots, r.splits, r.in_box, t.offsets_are, t.marks_are) at c.descend.ensures in
     rw p.same_k (found_root (rooted c.args.shelf.now) p.in_run _ _ (rw p.same_k at t.rows) found)

@@ -9,7 +9,7 @@ use Rattle.screen_walk.proofs.screen.Goals as goal
 pub branch-shelf-requires : goal.branch-shelf-requires
 branch-shelf-requires c =
     let s = c.args.shelf.now in
-    let t = c.table_of-table.ensures in
+    let t = c.faces_table-table.ensures in
     let r = c.root_run.ensures in
     let faced = faced_root t c.requires c.all_faces-live.ensures (box_of s.rows) in
     record {
@@ -19,7 +19,7 @@ branch-shelf-requires c =
 
 pub returns : goal.returns
 returns c =
-    let t = c.table_of-table.ensures in
+    let t = c.faces_table-table.ensures in
     let r = c.root_run.ensures in
     let found = rw (r.starts, r.slots, r.splits, r.in_box, t.offsets_are, t.marks_are) at c.branch-shelf.ensures in
     rw c.requires (screened_by_faces _ _ _ _ (rw c.requires at t.rows) (shelf_screened c.args.shelf.now.alike found))

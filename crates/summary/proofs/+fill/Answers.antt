@@ -1,43 +1,48 @@
 use Prim.Native.Nat.{◌<◌}
 use native.Mathlib.Omega.{arith}
+use borrow.Author.Rules.{rules}
 use lib.ListN.{length}
 use Rattle.theory.specs.RunParts.{right_length}
-use Rattle.summary.specs.Shares.{lent_left, lent_right, none_summarised}
-use Rattle.summary.specs.Shares.{end_summarisable, both_stored, all_back}
+use Rattle.summary.specs.Shares.{none_summarised, own_within, end_summarisable, both_stored, both_back, all_back}
+use Rattle.summary.specs.Shared.{part_filled}
 use Rattle.summary.proofs.+fill.Goals as goal
 
-pub returns-then-c-eq0 : goal.returns-then-c-eq0
-returns-then-c-eq0 t c = none_summarised _ _ c.if-c-eq0.true c.requires
+pub returns-then-is_empty : goal.returns-then-is_empty
+returns-then-is_empty t c = none_summarised _ _ (search rules) c.requires
 
 pub fill-requires-2 : goal.fill-requires-2
 fill-requires-2 t c =
-    -- There is a slot, and its numbers lie within the summary.
-    let some_slots : 0 < length c.args.order.now =
-    omega (arith, c.if-c-eq0.false) in
-    let order = c.args.order.now in
-    let some = some_slots in
-    let left = rw (lent_left order) at c.fill.ensures in
-    let lent = lent_right order in
-    (rw lent (omega (arith, c.decreases, right_length order)), rw lent (end_summarisable order c.args.summary.now c.requires some left))
+    let order = c.args.slots.now.order.now in
+    let some : 0 < length order = search rules in
+    let s = c.share_out-from.ensures in
+    let left = part_filled s.left c.fill.ensures in (
+      rw s.right.order_is (omega (arith, c.decreases, right_length order)),
+      rw (s.right.same_k, s.right.same_points, s.right.order_is, s.from_is, s.to_is) (end_summarisable order c.args.summary.now c.requires some left),
+    )
 
 pub branch_box-own-requires : goal.branch_box-own-requires
 branch_box-own-requires t c =
-    -- There is a slot, and its numbers lie within the summary.
-    let some_slots : 0 < length c.args.order.now =
-    omega (arith, c.if-c-eq0.false) in
-    let order = c.args.order.now in
-    let some = some_slots in
-    let left = rw (lent_left order) at c.fill.ensures in
-    let right = rw (lent_right order) at c.fill-2.ensures in
-    both_stored order c.args.summary.now c.requires some left right
+    let order = c.args.slots.now.order.now in
+    let some : 0 < length order = search rules in
+    let s = c.share_out-from.ensures in
+    let left = part_filled s.left c.fill.ensures in
+    let right = part_filled s.right c.fill-2.ensures in
+    rw (s.from_is, s.to_is) (both_stored order c.args.summary.now c.requires some left right)
+
+pub slice_bounds-write_box-end : goal.slice_bounds-write_box-end
+slice_bounds-write_box-end t c =
+    let order = c.args.slots.now.order.now in
+    let some : 0 < length order = search rules in
+    let s = c.share_out-from.ensures in
+    let left = part_filled s.left c.fill.ensures in
+    let right = part_filled s.right c.fill-2.ensures in
+    rw (s.from_is, s.to_is) (omega (arith, own_within c.requires some, both_back order c.args.summary.now c.requires some left right))
 
 pub returns : goal.returns
 returns t c =
-    -- There is a slot, and its numbers lie within the summary.
-    let some_slots : 0 < length c.args.order.now =
-    omega (arith, c.if-c-eq0.false) in
-    let order = c.args.order.now in
-    let some = some_slots in
-    let left = rw (lent_left order) at c.fill.ensures in
-    let right = rw (lent_right order) at c.fill-2.ensures in
-    all_back order c.args.summary.now c.requires some left right c.branch_box-own.ensures c.write_box.ensures
+    let order = c.args.slots.now.order.now in
+    let some : 0 < length order = search rules in
+    let s = c.share_out-from.ensures in
+    let left = part_filled s.left c.fill.ensures in
+    let right = part_filled s.right c.fill-2.ensures in
+    rw (s.from_is, s.to_is) (all_back order c.args.summary.now c.requires some left right c.branch_box-own.ensures c.write_box.ensures)

@@ -3,4 +3,4 @@ use lib.ListN.{length}
 use Rattle.summary.proofs.+fill.Given as goal
 
 abbrev pub decreases-fill : goal.decreases-fill
-decreases-fill l = length l.order.now
+decreases-fill l = length l.slots.now.order.now

@@ -3,4 +3,4 @@ use lib.ListN.{length}
 use Rattle.summary.proofs.+is_summary.Given as goal
 
 abbrev pub decreases-is_summary : goal.decreases-is_summary
-decreases-is_summary l = length l.order.now
+decreases-is_summary l = length l.slots.now.order.now

@@ -5,7 +5,7 @@ use Rattle.descent.specs.SlotsBox.{spanned_more, spanned_all}
 use Rattle.descent.proofs.slots_box.slots_box.Goals as goal
 
 pub loop-p-preserved : goal.loop-p-preserved
-loop-p-preserved c = spanned_more c.requires.k_bound c.loop-p.invariant (λ d m. c.point_at.ensures.same.same d m) c.widened-rows.ensures
+loop-p-preserved c = spanned_more c.requires.k_bound c.loop-p.invariant (λ d m. c.point_at-x.ensures.same.same d m) c.joined-rows.ensures
 
 pub returns : goal.returns
 returns c =

@@ -4,8 +4,8 @@ use Rattle.region.proofs.Signed.{back64}
 use Rattle.reason.specs.Find.{found_below, found_above, found_own, side_shorter, sought_side, found_side, sought_front}
 use Rattle.reason.proofs.way.+descend.Goals as goal
 
-pub point_margin-margin-requires : goal.point_margin-margin-requires
-point_margin-margin-requires t c =
+pub face_margin-margin-requires : goal.face_margin-margin-requires
+face_margin-margin-requires t c =
     let w = c.requires in
     let below = rw (c.in-Below.is, w.same_k) at c.judge.ensures in
     record { coordinates = rw w.same_k w.sought.point.ranges; known = below.known }
@@ -14,7 +14,7 @@ pub returns-in-Below : goal.returns-in-Below
 returns-in-Below t c =
     let w = c.requires in
     let below = rw (c.in-Below.is, w.same_k) at c.judge.ensures in
-    found_below w.sought below (rw w.same_k at (back64 c.point_margin-margin.type_inv ∙ c.point_margin-margin.ensures))
+    found_below w.sought below (rw w.same_k at (back64 c.face_margin-margin.type_inv ∙ c.face_margin-margin.ensures))
 
 pub returns-in-Above : goal.returns-in-Above
 returns-in-Above t c =

@@ -15,8 +15,8 @@ returns-in-None c =
     let x = lone c.args.x in
     sym (own_inside g x c.args.slot (sym (lowest_face_is g x None none)))
 
-pub point_margin-margin-requires : goal.point_margin-margin-requires
-point_margin-margin-requires c =
+pub face_margin-margin-requires : goal.face_margin-margin-requires
+face_margin-margin-requires c =
     let some = rw c.in-Some.is at c.lowest_below.ensures in
     record { coordinates = c.requires; known = some.known }
 
@@ -26,4 +26,4 @@ returns-in-Some c =
     let g = told c.args.table.now in
     let x = lone c.args.x in
     let e = lowest_face_is g x (Some c.in-Some.face) some in
-    rw (back64 c.point_margin-margin.type_inv, c.point_margin-margin.ensures, e) (sym (own_outside g x c.args.slot (rw e at some.known)))
+    rw (back64 c.face_margin-margin.type_inv, c.face_margin-margin.ensures, e) (sym (own_outside g x c.args.slot (rw e at some.known)))

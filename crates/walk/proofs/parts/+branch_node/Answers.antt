@@ -7,7 +7,7 @@ use Rattle.walk.proofs.parts.+branch_node.Goals as goal
 pub branch-returns-then-c-eq0 : goal.branch-returns-then-c-eq0
 branch-returns-then-c-eq0 g t c =
     let s = c.requires in
-    branch_empty (walkable g.B.Branches.laws s.same_k s.goes s.lives s.tallied) c.if-c-eq0.true
+    branch_empty _ _ _ _ _ _ _ _ (walkable g.B.Branches.laws s.same_k s.goes s.lives s.tallied).going.long c.if-c-eq0.true
 
 pub branch-returns-in-Below : goal.branch-returns-in-Below
 branch-returns-in-Below g t c =

@@ -4,7 +4,7 @@ ghost use Rattle.region.specs.Ranges.{KnownFaces};
 
 // Tested faces, k components to a normal: face i has the components from place i * k on, an offset and a mark.
 #[derive(Clone, Copy)]
-pub struct LentFaces<'a> {
+pub struct TestedFaces<'a> {
     pub k: usize,
     pub normals: &'a [i32],
     pub offsets: &'a [i64],

@@ -1,6 +1,6 @@
 -- The least box that two boxes lie in: both lie in it, and it lies in every box that both lie in.
-use Rattle.std.specs.Prelude.{◌≡◌, List, ℕ, ◌+◌, ◌≤◌, ◌<◌, length, set, ℤ, pos}
-use Rattle.std.proofs.Common.{not-suc-le-zero, arith, length-set}
+use Rattle.std.specs.Prelude.{◌≡◌, refl, List, ℕ, ◌+◌, ◌≤◌, ◌<◌, length, set, ℤ, pos}
+use Rattle.std.proofs.Common.{◌∙◌, not-suc-le-zero, arith, length-set, get_or-set_other}
 use Rattle.whole.specs.Order.{lesser, greater}
 use Rattle.whole.proofs.Order.{lesser_le_left, lesser_le_right, le_lesser, le_greater_left, le_greater_right, greater_le}
 use Rattle.terms.specs.Points.{lone}
@@ -32,17 +32,19 @@ module _ {k : ℕ} (few : k ≤ 4) {a b c : Box} (j : Joined a b c) where
     most = λ d l. rw (j.highs d (omega arith)) (greater_le (p.most d l) (q.most d l));
   }
 
--- One row on the way: the places before d have what is chosen of the two rows.
-pub record ChosenTo (pick : ℤ → ℤ → ℤ) (a b : List ℤ) (d : ℕ) (row : List ℤ) : Type 0 where
+-- One row on the way: the places before d have what is chosen of the two rows, the others have the first's.
+pub record RowTo (pick : ℤ → ℤ → ℤ) (a b : List ℤ) (d : ℕ) (row : List ℤ) : Type 0 where
   pub wide : 4 ≤ length row
   pub chosen : (e : ℕ) → e < d → lone row e ≡ pick (lone a e) (lone b e)
+  pub kept : (e : ℕ) → d ≤ e → lone row e ≡ lone a e
 
-pub chosen_none : {pick : ℤ → ℤ → ℤ} {a b row : List ℤ} → 4 ≤ length row → ChosenTo pick a b 0 row
-chosen_none wide = record { wide = wide; chosen = λ e l. absurd (not-suc-le-zero l) }
+pub row_none : {pick : ℤ → ℤ → ℤ} {a b : List ℤ} → 4 ≤ length a → RowTo pick a b 0 a
+row_none wide = record { wide = wide; chosen = λ e l. absurd (not-suc-le-zero l); kept = λ e l. refl }
 
-pub chosen_next : {pick : ℤ → ℤ → ℤ} {a b : List ℤ} {d : ℕ} {row : List ℤ} → d < 4 → ChosenTo pick a b d row → {x : ℤ} → x ≡ pick (lone a d) (lone b d)
-    → ChosenTo pick a b (d + 1) (set row d x)
-chosen_next {pick} {a} {b} {d} {row} l r {x} e = record {
+pub row_next : {pick : ℤ → ℤ → ℤ} {a b : List ℤ} {d : ℕ} {row : List ℤ} → d < 4 → RowTo pick a b d row → {x : ℤ} → x ≡ pick (lone row d) (lone b d)
+    → RowTo pick a b (d + 1) (set row d x)
+row_next {pick} {a} {b} {d} {row} l r {x} e = record {
   wide = omega (arith, length-set row d x, r.wide);
-  chosen = store_next (λ e y. y ≡ pick (lone a e) (lone b e)) (pos 0) row d x (omega (arith, r.wide)) r.chosen e;
+  chosen = store_next (λ e y. y ≡ pick (lone a e) (lone b e)) (pos 0) row d x (omega (arith, r.wide)) r.chosen (e ∙ rw (r.kept d (omega arith)) refl);
+  kept = λ e m. get_or-set_other row d e x (pos 0) (omega arith) ∙ r.kept e (omega arith);
 }
