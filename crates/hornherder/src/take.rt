@@ -1,5 +1,5 @@
 // The take call.
-ghost use Rattle.std.specs.Prelude.{◌≡◌, IfOk};
+ghost use Rattle.std.specs.Prelude.{◌≡◌, length, IfOk};
 ghost use Rattle.terms.specs.Live.{lowest_dead};
 ghost use Rattle.terms.specs.RefusalNumbers.{code_of};
 ghost use Rattle.terms.specs.AnswersForC.{taking_of};
@@ -27,9 +27,19 @@ pub fn take(
 {
     let number = test_take(k, n, points, live, point)?;
     let start = number * k;
-    points[start..start + k].copy_from_slice(point);
+    write_coordinates(point, &mut points[start..start + k]);
     live[number] = 1;
     Ok(number as u32)
+}
+
+// The point's coordinates in as many places. A loop, since `copy_from_slice` would ask programs in C for one more name, `memmove`.
+fn write_coordinates(point: &[i32], place: &mut [i32])
+    requires { length place.old ≡ length point.now }
+    ensures { place.new ≡ point.now }
+{
+    for (d, &coordinate) in point.iter().enumerate() {
+        place[d] = coordinate;
+    }
 }
 
 // The first of 1, 2, 3, 15, 5 and 16 that holds of the take call's arguments, or the lowest dead number. 3 and 5 are asked of the new point too.

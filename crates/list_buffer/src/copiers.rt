@@ -1,4 +1,5 @@
-// The copiers: a run of slots goes to the list as it stands, in front or backwards from behind.
+// The copiers: a run of slots goes to the list as it stands, in front or backwards from behind. Each is a loop, since `copy_from_slice` would ask programs in
+// C for one more name, `memmove`, and a run that is copied and then reversed is gone over twice.
 ghost use Rattle.std.specs.Prelude.{◌≡◌, ◌+◌, ◌-◌, ◌≤◌, length};
 ghost use Rattle.std.proofs.Math.Seq.{paste};
 ghost use Rattle.list_buffer.specs.Filled.{paste_back};
@@ -8,7 +9,9 @@ pub fn copy_inside(run: &[u32], list: &mut [u32], inside: usize)
     requires { inside + length run.now ≤ length list.old }
     ensures { list.new ≡ paste list.old inside run.now (length run.now) }
 {
-    list[inside..inside + run.len()].copy_from_slice(run);
+    for (front, &number) in run.iter().enumerate() {
+        list[inside + front] = number;
+    }
 }
 
 // Writes a run that is outside to the list, backwards before those of the slots done so far that are not inside.
@@ -18,7 +21,7 @@ pub fn copy_outside(run: &[u32], list: &mut [u32], done: usize, inside: usize)
     ensures { list.new ≡ paste_back list.old (length list.old - (done - inside)) run.now (length run.now) }
 {
     let end = list.len() - (done - inside);
-    let places = &mut list[end - run.len()..end];
-    places.copy_from_slice(run);
-    places.reverse();
+    for (back, &number) in run.iter().enumerate() {
+        list[end - 1 - back] = number;
+    }
 }

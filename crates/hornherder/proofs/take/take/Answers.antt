@@ -33,16 +33,16 @@ offset_bounds-points-start c =
     let lent = passed_lent t in
     omega (arith, point_room lent known, points_few lent)
 
-pub slice_bounds-copy_from_slice-end : goal.slice_bounds-copy_from_slice-end
-slice_bounds-copy_from_slice-end c =
+pub slice_bounds-write_coordinates-end : goal.slice_bounds-write_coordinates-end
+slice_bounds-write_coordinates-end c =
     let a = c.args in
     let t = take_tested a.k a.n a.points.now a.live.now a.point.now c.in_ok-number.ensures.first refl in
     let known : c.in_ok-number.number < a.n = rw c.in_ok-number.ensures.lowest t.dead in
     let lent = passed_lent t in
     omega (arith, point_room lent known)
 
-pub copy_from_slice-requires : goal.copy_from_slice-requires
-copy_from_slice-requires c =
+pub write_coordinates-requires : goal.write_coordinates-requires
+write_coordinates-requires c =
     let a = c.args in
     let t = take_tested a.k a.n a.points.now a.live.now a.point.now c.in_ok-number.ensures.first refl in
     let known : c.in_ok-number.number < a.n = rw c.in_ok-number.ensures.lowest t.dead in
@@ -64,4 +64,4 @@ overflow_cast-result c =
     omega (arith, known, t.shaped.many)
 
 pub returns : goal.returns
-returns c = take_done _ _ _ _ _ c.in_ok-number.ensures.first refl c.in_ok-number.ensures.lowest c.copy_from_slice.ensures.after
+returns c = take_done _ _ _ _ _ c.in_ok-number.ensures.first refl c.in_ok-number.ensures.lowest c.write_coordinates.ensures
