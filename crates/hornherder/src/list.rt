@@ -31,11 +31,12 @@ pub fn list(
     let shelf = shelf_of(stock.k, stock.n, stock.points, run);
     let faces = tested_faces(stock.k, faces);
     let tally = walk(&shelf, &faces, &mut list[..slots]);
-    Ok(Listed {
+    let listed = Listed {
         inside: tally.inside as u32,
         outside: (slots - tally.inside) as u32,
         visits: tally.visits as u32,
-    })
+    };
+    Ok(listed)
 }
 
 // The first of 1, 2, 3, 15, 4 to 8, 11 and 9 that holds of the list call's arguments, or the slots of the shelf.

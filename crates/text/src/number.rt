@@ -66,8 +66,9 @@ impl Cursor<'_> {
         if count > 10 {
             return None;
         }
+        let several = count > 1;
         let first = self.text[self.at];
-        if count > 1 && first == b'0' {
+        if several && first == b'0' {
             return None;
         }
         let value = digits_value(&self.text[self.at..end]);

@@ -31,18 +31,18 @@ walk-tally-requires c =
       list_len = length-take-le _ _ (rw (run_length (stock_of c.args.stock.now) (order_of c.args.order.now) c.in_ok-run.ensures.slots p.room) p.list_room) ∙ sym (ap length s.order_is);
     }
 
-pub overflow_cast-result : goal.overflow_cast-result
-overflow_cast-result c =
+pub overflow_cast-listed : goal.overflow_cast-listed
+overflow_cast-listed c =
     let p = list_tested (stock_of c.args.stock.now) (order_of c.args.order.now) (lent_faces c.args.faces.now) c.args.list.now c.in_ok-run.ensures.first refl in
     omega (arith, (counts_at_most c.walk-tally.ensures).inside, ap length c.shelf_of-shelf.ensures.order_is, run_few (stock_of c.args.stock.now) (order_of c.args.order.now) c.in_ok-run.ensures.slots p.tested p.room)
 
-pub overflow_cast-result-2 : goal.overflow_cast-result-2
-overflow_cast-result-2 c =
+pub overflow_cast-listed-2 : goal.overflow_cast-listed-2
+overflow_cast-listed-2 c =
     let p = list_tested (stock_of c.args.stock.now) (order_of c.args.order.now) (lent_faces c.args.faces.now) c.args.list.now c.in_ok-run.ensures.first refl in
     omega (arith, (counts_at_most c.walk-tally.ensures).outside, ap length c.shelf_of-shelf.ensures.order_is, run_few (stock_of c.args.stock.now) (order_of c.args.order.now) c.in_ok-run.ensures.slots p.tested p.room)
 
-pub overflow_cast-result-3 : goal.overflow_cast-result-3
-overflow_cast-result-3 c =
+pub overflow_cast-listed-3 : goal.overflow_cast-listed-3
+overflow_cast-listed-3 c =
     let p = list_tested (stock_of c.args.stock.now) (order_of c.args.order.now) (lent_faces c.args.faces.now) c.args.list.now c.in_ok-run.ensures.first refl in
     omega (arith, (counts_at_most c.walk-tally.ensures).visited, ap length c.shelf_of-shelf.ensures.order_is, run_few (stock_of c.args.stock.now) (order_of c.args.order.now) c.in_ok-run.ensures.slots p.tested p.room)
 

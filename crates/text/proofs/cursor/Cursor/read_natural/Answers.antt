@@ -4,7 +4,7 @@ use Rattle.text.specs.DigitRuns.{slice_front}
 use Rattle.text.specs.Found.{stop_low}
 use Rattle.text.specs.NaturalReading.{miss_end, miss_stop, miss_none, miss_long, miss_zero, hit}
 use Rattle.text.proofs.cursor.Cursor.read_natural.Goals as goal
-use Rattle.text.proofs.cursor.Cursor.read_natural.Goals.{else-count-gt1-via-then-count-gt1+else-first-eq48, else-count-gt1-via-else-count-gt1}
+use Rattle.text.proofs.cursor.Cursor.read_natural.Goals.{else-several-via-then-several+else-first-eq48, else-several-via-else-several}
 
 pub returns-then-end-self-clause-found : goal.returns-then-end-self-clause-found
 returns-then-end-self-clause-found c = miss_end c.digits_end-end.ensures (stop_low c.args.stop) c.if-end-self.true
@@ -32,8 +32,8 @@ returns-clause-found c =
     let run = c.digits_end-end.ensures in
     let says = rw (slice_front _ _ _ run.start) at c.digits_value-value.ensures in
     let front : get_or c.args.self.now.text.now c.args.self.now.at 0 ≡ 48 → c.digits_end-end.result - c.args.self.now.at ≡ 1 =
-    elim c.else-count-gt1.branch [
-      | else-count-gt1-via-then-count-gt1+else-first-eq48 w ↦ λ z. absurd (w.if-first-eq48.false z)
-      | else-count-gt1-via-else-count-gt1 w ↦ λ z. omega arith
+    elim c.else-several.branch [
+      | else-several-via-then-several+else-first-eq48 w ↦ λ z. absurd (w.if-first-eq48.false z)
+      | else-several-via-else-several w ↦ λ z. omega arith
     ] in
     hit run (stop_low c.args.stop) c.digits_value-value.result says (omega arith) (c.if-self-end.false ∙ c.byte.ensures) (omega arith) (omega arith) front
