@@ -34,6 +34,8 @@ pub fn row_of(k: usize, numbers: &[i32], i: usize) -> [i32; 4]
 
 // The rows of h faces as a table. An index, since a row's place in the table is told by its face's number.
 // It asks for the rows alone, and `point_margin` below for one face: what they ask may not grow to what a type of all faces holds.
+// It is written out where it is called, as is the table of faces below: handed over, its 512 bytes were copied once more for each region.
+#[inline(always)]
 pub fn table_of(k: usize, normals: &[i32], h: usize) -> [i32; 128]
     requires k_bound { k ≤ 4 }
     requires h_bound { h ≤ 32 }
@@ -49,6 +51,7 @@ pub fn table_of(k: usize, normals: &[i32], h: usize) -> [i32; 128]
 }
 
 // The faces with their normals as a table, made once for a call that tests many points and boxes.
+#[inline(always)]
 pub fn faces_table<'a>(faces: &TestedFaces<'a>) -> Table<'a>
     ensures { TableOf faces.now result }
 {
